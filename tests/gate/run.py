@@ -1,7 +1,8 @@
 #!/usr/bin/env python3
-"""Compares how `clnp run` ends with what docs/FORMATS.md says of it: each exit number, and all of standard error, for bad words at
-each place, bad inputs of each code, inputs of the greatest length and above it, links that can't be opened, links that fail,
-streams that fail, and want of memory. Nothing but 127.0.0.1 is bound, at ports that are free. It ends within a minute.
+"""Compares how `clnp run` ends with what docs/FORMATS.md says of it: each exit number, and all of standard error (of advice,
+that it is there and plain), for bad words at each place, bad inputs of each code, inputs of the greatest length and above it,
+links that can't be opened, links that fail, streams that fail, and want of memory. Nothing but 127.0.0.1 is bound, at ports
+that are free. It ends within a minute.
 
 usage: tests/gate/run.py [PROGRAM]     PROGRAM is another program to run than the built one
 """
@@ -19,6 +20,8 @@ PROGRAM = os.path.join(ROOT, "crates", "clnp_tool", "out", "clnp_tool")
 MOST = 16_777_216
 COMMANDS = ("clnp: wanted: sim, trace, show, check, pack, pcap-show, pcap-make, pcap-lines, reassemble, migrate, storm, or run;"
             " clnp --help tells of each\n")
+# the line of advice, which stands behind that of each bad input
+ADVICE = r"clnp: [ -~]{1,250}\n"
 A, B, R = "47002702", "47002701", "470027ff"
 # the unit of README.md: the octets `hi` from A to B, with the lifetime 10, that may not be cut
 UNIT = "8113010a3c0015ce58044700270104470027026869"
@@ -73,14 +76,15 @@ class Ends:
         self.program, self.counts, self.differ = program, {}, 0
 
     def check(self, what, words, text, status, said, wrote="", **streams):
-        """Runs the program with these words behind `run`, and compares its exit number, the lines of standard error, and standard
-        output, which `wrote` is a pattern of."""
+        """Runs the program with these words behind `run`, and compares its exit number, the lines of standard error, with advice
+        behind those of a bad input, and standard output, which `wrote` is a pattern of."""
         given = {"input": text.encode() if isinstance(text, str) else text} if "stdin" not in streams else {}
         ran = subprocess.run([self.program, "run", *words], **given, **{"stdout": subprocess.PIPE, **streams}, stderr=subprocess.PIPE, timeout=30)
         errors = ran.stderr.decode("latin-1")
         output = (ran.stdout or b"").decode("latin-1")
         self.counts[status] = self.counts.get(status, 0) + 1
-        if ran.returncode != status or errors != said or not re.fullmatch(wrote, output):
+        all_said = re.escape(said) + (ADVICE if status == 3 else "")
+        if ran.returncode != status or not re.fullmatch(all_said, errors) or not re.fullmatch(wrote, output):
             self.differ += 1
             print(f"DIFFERS: {what}: run {' '.join(words)[:300]}\n  ended with {ran.returncode} and said {errors!r}"
                   f"\n  wanted {status} and {said!r}\n  wrote {output[:300]!r}, wanted {wrote[:300]!r}")

@@ -1,4 +1,4 @@
-use scenario::esis_tables::{EsisLimits, Gone, Heard, Place, TableKind, Tables};
+use scenario::esis_tables::{EsisLimits, Gone, Heard, Neighbour, TableKind, Tables};
 use scenario::nsap::{Address, Snpa};
 use std::alloc::Global;
 use std::process::Abort;
@@ -45,8 +45,8 @@ fn snpa(rt: &impl Abort, octet: u8) -> Snpa {
 }
 
 /// The place of this SNPA on port 0.
-fn place(rt: &impl Abort, octet: u8) -> Place {
-    Place {
+fn neighbour(rt: &impl Abort, octet: u8) -> Neighbour {
+    Neighbour {
         port: 0,
         snpa: snpa(rt, octet),
     }
@@ -56,7 +56,7 @@ fn place(rt: &impl Abort, octet: u8) -> Place {
 fn heard(rt: &impl Abort, alloc: Global, hearings: &[Hearing]) -> Tables {
     let mut tables = Tables::new(alloc, LIMITS).expect(rt, "memory");
     for Hearing(table, last, octet, hold, answer) in hearings {
-        let told = tables.hear(0, *table, address(rt, *last), place(rt, *octet), *hold);
+        let told = tables.hear(0, *table, address(rt, *last), neighbour(rt, *octet), *hold);
         assert!(rt; told == *answer);
     }
     tables
@@ -68,8 +68,12 @@ fn answers_hearings(rt: HostRuntime) {
 }
 
 /// The redirect's next hop, where it holds.
-fn hop(rt: &impl Abort, holds: bool) -> Option<Place> {
-    if holds { Some(place(rt, 0x02)) } else { None }
+fn hop(rt: &impl Abort, holds: bool) -> Option<Neighbour> {
+    if holds {
+        Some(neighbour(rt, 0x02))
+    } else {
+        None
+    }
 }
 
 /// Sees whether the way to a host is told, by a redirect and by the host itself.

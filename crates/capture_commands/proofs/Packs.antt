@@ -3,7 +3,7 @@ use Rattle.std.proofs.Common.{◌≡◌, ◌↔◌, ℕ, ◌+◌, true, List, []
 use Rattle.captures.specs.Nsap.Text.{hex_text}
 use Rattle.captures.specs.Captures.{is_skipped}
 use Rattle.capture_text.specs.declared.refusal.PackRefusal.{PackRefusal}
-use Rattle.capture_text.specs.declared.refusal.PackRefusal.TheVariants as refusal
+use Rattle.capture_text.specs.declared.refusal.PackRefusal.TheVariants as pack_refusal
 use Rattle.capture_text.specs.Packing.{IsNotShown, PacksTooMuch, PacksWithin, is_unpackable}
 use Rattle.capture_text.specs.Outcome.{Outcome, Skipped, NotPackable, NotShown, TooLong, Frame, ComesOf, outcome_of}
 use Rattle.command_base.specs.declared.block.LineFault.{LineFault}
@@ -65,15 +65,15 @@ pushed_frame law line octets old between new number (Err (fault.Bad code)) packs
 
 -- a line that isn't packed
 pub pushed_refusal : (A : Type 0) → OutcomeLaw → (line old new : List ℕ) (number : ℕ) (why : PackRefusal)
-    → (why ≡ refusal.NotPackable → is_unpackable line ≡ true) → (why ≡ refusal.NotShown → IsNotShown line) → (why ≡ refusal.Count → PacksTooMuch line) → new ≡ old
+    → (why ≡ pack_refusal.NotPackable → is_unpackable line ≡ true) → (why ≡ pack_refusal.NotShown → IsNotShown line) → (why ≡ pack_refusal.Count → PacksTooMuch line) → new ≡ old
     → PushOf {A = A} packing number (λ done. number + 1) number line old new (Err (unpacked_fault why))
-pushed_refusal A law line old new number refusal.NotPackable unpackable not_shown many same =
+pushed_refusal A law line old new number pack_refusal.NotPackable unpackable not_shown many same =
     let is : outcome_of line ≡ NotPackable = (law line NotPackable).1 (unpackable refl) in
     (record { stops = λ later. sym (output_is line NotPackable is later); answer = λ later. status_is line NotPackable is number later }, same)
-pushed_refusal A law line old new number refusal.NotShown unpackable not_shown many same =
+pushed_refusal A law line old new number pack_refusal.NotShown unpackable not_shown many same =
     let is : outcome_of line ≡ NotShown = (law line NotShown).1 (not_shown refl) in
     (record { stops = λ later. sym (output_is line NotShown is later); answer = λ later. status_is line NotShown is number later }, same)
-pushed_refusal A law line old new number refusal.Count unpackable not_shown many same =
+pushed_refusal A law line old new number pack_refusal.Count unpackable not_shown many same =
     let is : outcome_of line ≡ TooLong = (law line TooLong).1 (many refl) in
     (record { stops = λ later. sym (output_is line TooLong is later); answer = λ later. status_is line TooLong is number later }, same)
-pushed_refusal A law line old new number refusal.NoMemory unpackable not_shown many same = tt
+pushed_refusal A law line old new number pack_refusal.NoMemory unpackable not_shown many same = tt

@@ -1,6 +1,6 @@
 -- The codes of lines that are refused.
 use Rattle.capture_text.specs.declared.refusal.PackRefusal.{PackRefusal}
-use Rattle.capture_text.specs.declared.refusal.PackRefusal.TheVariants as unpacked
+use Rattle.capture_text.specs.declared.refusal.PackRefusal.TheVariants as pack_refusal
 use Rattle.captures.specs.declared.capture.LineRefusal.{LineRefusal}
 use Rattle.captures.specs.declared.capture.LineRefusal.TheVariants.{Syntax, Count, NoMemory}
 use Rattle.command_base.specs.declared.block.LineFault.{LineFault}
@@ -15,7 +15,7 @@ fault_of NoMemory = fault.NoMemory
 -- 16 for the line of a refused frame, or of one of neither protocol; 2 for one that shows no accepted frame; 10 for one
 -- whose frame has too many octets
 abbrev pub unpacked_fault : PackRefusal → LineFault
-unpacked_fault unpacked.NotPackable = fault.Bad 16
-unpacked_fault unpacked.NotShown = fault.Bad 2
-unpacked_fault unpacked.Count = fault.Bad 10
-unpacked_fault unpacked.NoMemory = fault.NoMemory
+unpacked_fault pack_refusal.NotPackable = fault.Bad 16
+unpacked_fault pack_refusal.NotShown = fault.Bad 2
+unpacked_fault pack_refusal.Count = fault.Bad 10
+unpacked_fault pack_refusal.NoMemory = fault.NoMemory

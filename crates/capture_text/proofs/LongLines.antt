@@ -13,7 +13,7 @@ use Rattle.captures.specs.PduHeader.Value.{SegmentationPart, PduValue}
 use Rattle.captures.proofs.PduHeader.Written.{length-header}
 use Rattle.captures.specs.EsisPdus.declared.pdu.EsisBody.{EsisBody}
 use Rattle.captures.specs.EsisPdus.declared.pdu.EsisBody.TheVariants.{Esh, Ish, Rd}
-use Rattle.captures.specs.EsisPdus.Spelling as esis
+use Rattle.captures.specs.EsisPdus.Spelling as esis_spelling
 use Rattle.captures.specs.EsisPdus.Spelling.{body_octets, title_octets}
 use Rattle.captures.specs.EsisPdus.Value.{EsisValue}
 use Rattle.captures.proofs.EsisPdus.Frames.{laid_out}
@@ -22,7 +22,7 @@ use Rattle.captures.specs.Captures.{capture_of, is_skipped, most_octets}
 use Rattle.captures.specs.Words.{pair_word, option_text, options_text, checksum_of}
 use Rattle.captures.specs.Shown.{ShowsValue, front_text, kind_and_flags_text, segmentation_text, value_text}
 use Rattle.captures.specs.EsisShown.{ShowsEsis, address_text, addresses_text, body_text, esis_text, esis_word}
-use Rattle.captures.proofs.CaptureFacts as facts
+use Rattle.captures.proofs.CaptureFacts as capture_facts
 use Rattle.capture_text.specs.Packing.{IsAccepted, Packs}
 use Rattle.capture_text.proofs.Packed.{value_of}
 use Rattle.capture_text.proofs.ReadBack.{half}
@@ -155,7 +155,7 @@ body_long (Rd to via title) =
       last_digits (codes " title=") name,
     )
 
-esis_value_long : (v : EsisValue) (sum : ℕ) (rest : List ℕ) → 2 * (esis.header_length v + length rest) ≤ length (esis_text v sum rest)
+esis_value_long : (v : EsisValue) (sum : ℕ) (rest : List ℕ) → 2 * (esis_spelling.header_length v + length rest) ≤ length (esis_text v sum rest)
 esis_value_long v sum rest =
     let behind_body : List ℕ = options_text v.options ++ (codes " rest=" ++ hex_text rest) in
     let behind_sum : List ℕ = body_text v.body ++ behind_body in
@@ -175,7 +175,7 @@ esis_value_long v sum rest =
       length-append (body_octets v.body) (spelled v.options),
     )
 
-esis_octets : (v : EsisValue) → length (esis.spelling v) ≡ esis.header_length v
+esis_octets : (v : EsisValue) → length (esis_spelling.spelling v) ≡ esis_spelling.header_length v
 esis_octets v = let out = laid_out v in ap length out.layout ∙ omega arith
 
 esis_long : (line frame : List ℕ) → ShowsEsis frame line → 2 * length frame ≤ length line
@@ -215,4 +215,4 @@ digits_unskipped (octet ∷ octets) bytes accepted =
 
 pub digits_read : (frame : List ℕ) → IsBytes frame → IsAccepted frame → length frame ≤ most_octets → capture_of (hex_text frame) ≡ capture.Frame frame
 digits_read frame bytes accepted few =
-    facts.frame (hex_text frame) frame (digits_unskipped frame bytes accepted) (decode_of-encode_lower frame bytes) (omega (arith, half frame, few))
+    capture_facts.frame (hex_text frame) frame (digits_unskipped frame bytes accepted) (decode_of-encode_lower frame bytes) (omega (arith, half frame, few))

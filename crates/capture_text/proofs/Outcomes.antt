@@ -8,10 +8,10 @@ use Rattle.captures.specs.ClnpBase.Text.{words_of}
 use Rattle.captures.specs.ClnpOptions.declared.judge.OptionRefusal.{OptionRefusal}
 use Rattle.captures.specs.EsisPdus.declared.pdu.EsisRefusal.{EsisRefusal}
 use Rattle.captures.specs.EsisPdus.Rules.{why_refused}
-use Rattle.captures.specs.EsisPdus.Reading as esis
+use Rattle.captures.specs.EsisPdus.Reading as esis_reading
 use Rattle.captures.specs.EsisPdus.Value.{EsisValue}
 use Rattle.captures.specs.PduHeader.Rules.{octet, refusal, header_of}
-use Rattle.captures.specs.PduHeader.Reading as pdu
+use Rattle.captures.specs.PduHeader.Reading as pdu_reading
 use Rattle.captures.specs.PduHeader.Value.{PduValue}
 use Rattle.captures.specs.Captures.{is_skipped, most_octets}
 use Rattle.captures.specs.Words.{checksum_of}
@@ -59,23 +59,23 @@ clnp_line : (frame line : List ℕ) → ShowsValue frame line → shown_line fra
 unfolding shown_line
 clnp_line frame line shows =
     let front = pdu_frames.is_front frame shows.value shows.rest shows.begins in
-    let here : List ℕ = value_text (pdu.value_of (header_of frame) (pdu.body_of frame)) (checksum_of frame) (pdu.rest_of frame) in
-    let there : List ℕ = esis_text (esis.value_of (header_of frame)) (checksum_of frame) (esis.rest_of frame) in
+    let here : List ℕ = value_text (pdu_reading.value_of (header_of frame) (pdu_reading.body_of frame)) (checksum_of frame) (pdu_reading.rest_of frame) in
+    let there : List ℕ = esis_text (esis_reading.value_of (header_of frame)) (checksum_of frame) (esis_reading.rest_of frame) in
     ap (λ (n : ℕ). if n == 0x81 then here else there) front.protocol
     ∙ sym (shows.text
     ∙ ap (λ (v : PduValue). value_text v (checksum_of frame) shows.rest) front.value
-    ∙ ap (λ (rest : List ℕ). value_text (pdu.value_of (header_of frame) (pdu.body_of frame)) (checksum_of frame) rest) front.rest_is)
+    ∙ ap (λ (rest : List ℕ). value_text (pdu_reading.value_of (header_of frame) (pdu_reading.body_of frame)) (checksum_of frame) rest) front.rest_is)
 
 esis_line : (frame line : List ℕ) → ShowsEsis frame line → shown_line frame ≡ line
 unfolding shown_line
 esis_line frame line shows =
     let front = esis_frames.is_front frame shows.value shows.rest shows.begins in
-    let here : List ℕ = value_text (pdu.value_of (header_of frame) (pdu.body_of frame)) (checksum_of frame) (pdu.rest_of frame) in
-    let there : List ℕ = esis_text (esis.value_of (header_of frame)) (checksum_of frame) (esis.rest_of frame) in
+    let here : List ℕ = value_text (pdu_reading.value_of (header_of frame) (pdu_reading.body_of frame)) (checksum_of frame) (pdu_reading.rest_of frame) in
+    let there : List ℕ = esis_text (esis_reading.value_of (header_of frame)) (checksum_of frame) (esis_reading.rest_of frame) in
     ap (λ (n : ℕ). if n == 0x81 then here else there) front.protocol
     ∙ sym (shows.text
     ∙ ap (λ (v : EsisValue). esis_text v (checksum_of frame) shows.rest) front.value
-    ∙ ap (λ (rest : List ℕ). esis_text (esis.value_of (header_of frame)) (checksum_of frame) rest) front.rest_is)
+    ∙ ap (λ (rest : List ℕ). esis_text (esis_reading.value_of (header_of frame)) (checksum_of frame) rest) front.rest_is)
 
 line_is : (line frame : List ℕ) → Packs line frame → shown_line frame ≡ line
 line_is line frame is =

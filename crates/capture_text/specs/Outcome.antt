@@ -5,9 +5,9 @@ use Rattle.std.specs.List.{list_all}
 use Rattle.std.specs.Str.{bytes_eq}
 use Rattle.captures.specs.ClnpBase.Text.{words_of}
 use Rattle.captures.specs.PduHeader.Rules.{octet, refusal, header_of}
-use Rattle.captures.specs.PduHeader.Reading as pdu
+use Rattle.captures.specs.PduHeader.Reading as pdu_reading
 use Rattle.captures.specs.EsisPdus.Rules.{why_refused}
-use Rattle.captures.specs.EsisPdus.Reading as esis
+use Rattle.captures.specs.EsisPdus.Reading as esis_reading
 use Rattle.captures.specs.Captures.{is_skipped, most_octets}
 use Rattle.captures.specs.Words.{checksum_of}
 use Rattle.captures.specs.Shown.{value_text}
@@ -44,8 +44,8 @@ is_accepted frame = if octet frame 1 == 0x81 then is_none (refusal frame) else i
 unfoldable pub shown_line : List ℕ → List ℕ
 shown_line frame =
     if octet frame 1 == 0x81
-    then value_text (pdu.value_of (header_of frame) (pdu.body_of frame)) (checksum_of frame) (pdu.rest_of frame)
-    else esis_text (esis.value_of (header_of frame)) (checksum_of frame) (esis.rest_of frame)
+    then value_text (pdu_reading.value_of (header_of frame) (pdu_reading.body_of frame)) (checksum_of frame) (pdu_reading.rest_of frame)
+    else esis_text (esis_reading.value_of (header_of frame)) (checksum_of frame) (esis_reading.rest_of frame)
 
 -- whether the line packs to the frame
 unfoldable pub packs : List ℕ → List ℕ → Bool

@@ -11,7 +11,7 @@ use captures::clnp_base::{HexFault, decimal, push, push_unhex};
 const MOST_COUNTED: usize = 255;
 
 /// Appends the octets that hexadecimal digits spell.
-pub(crate) fn push_octets(digits: &[u8], out: &mut Vec<u8>) -> Result<(), PackRefusal>
+pub(crate) fn push_octets_in(digits: &[u8], out: &mut Vec<u8>) -> Result<(), PackRefusal>
     ensures { let reading = with_octets out.old.items digits.now in
         MatchResult result (λ _. reading ≡ Some out.new.items) (λ refusal. Misses refusal reading) }
 {
@@ -24,7 +24,7 @@ pub(crate) fn push_octets(digits: &[u8], out: &mut Vec<u8>) -> Result<(), PackRe
 }
 
 /// Appends the octets that hexadecimal digits spell, behind their number.
-pub(crate) fn push_counted(digits: &[u8], out: &mut Vec<u8>) -> Result<(), PackRefusal>
+pub(crate) fn push_counted_in(digits: &[u8], out: &mut Vec<u8>) -> Result<(), PackRefusal>
     ensures { let reading = with_counted out.old.items digits.now in
         MatchResult result (λ _. reading ≡ Some out.new.items) (λ refusal. Misses refusal reading) }
 {
@@ -33,11 +33,11 @@ pub(crate) fn push_counted(digits: &[u8], out: &mut Vec<u8>) -> Result<(), PackR
         return Err(PackRefusal::NotShown);
     }
     push(&[count as u8], out)?;
-    push_octets(digits, out)
+    push_octets_in(digits, out)
 }
 
 /// Appends an option: its code, the length of its value, its value.
-pub(crate) fn push_option(text: &[u8], out: &mut Vec<u8>) -> Result<(), PackRefusal>
+pub(crate) fn push_option_in(text: &[u8], out: &mut Vec<u8>) -> Result<(), PackRefusal>
     ensures { let reading = with_option out.old.items text.now in
         MatchResult result (λ _. reading ≡ Some out.new.items) (λ refusal. Misses refusal reading) }
 {
@@ -46,8 +46,8 @@ pub(crate) fn push_option(text: &[u8], out: &mut Vec<u8>) -> Result<(), PackRefu
     }
     let (code, _) = text.split_at(2);
     let (_, value) = text.split_at(3);
-    push_octets(code, out)?;
-    push_counted(value, out)
+    push_octets_in(code, out)?;
+    push_counted_in(value, out)
 }
 
 /// The number that decimal digits spell, where two octets hold it.
@@ -60,8 +60,8 @@ pub(crate) fn number_in(digits: &[u8]) -> Option<u16>
     }
 }
 
-/// Appends the two octets of a number.
-pub(crate) fn push_number(digits: &[u8], out: &mut Vec<u8>) -> Result<(), PackRefusal>
+/// Appends the two octets of the number that decimal digits spell.
+pub(crate) fn push_number_in(digits: &[u8], out: &mut Vec<u8>) -> Result<(), PackRefusal>
     ensures { let reading = with_number out.old.items digits.now in
         MatchResult result (λ _. reading ≡ Some out.new.items) (λ refusal. Misses refusal reading) }
 {

@@ -33,7 +33,8 @@ pub fn the_outcome_of_a_line()
 /// The line that shows an accepted frame is one line of a text, and has at least two characters for each octet of
 /// the frame.
 pub fn a_shown_line_is_one_line()
-    ensures one { (line frame more : List ℕ) → Packs line frame → lines_of (line ++ (10 ∷ more)) ≡ line ∷ lines_of more }
+    ensures one { (line frame more : List ℕ) → Packs line frame
+        → lines_of (line ++ (10 ∷ more)) ≡ line ∷ lines_of more }
     ensures long { (line frame : List ℕ) → Packs line frame → 2 * length frame ≤ length line }
 {}
 

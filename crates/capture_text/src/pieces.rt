@@ -5,7 +5,9 @@ ghost use Rattle.capture_text.specs.Said.{nothing, says_data, says_listed, says_
 ghost use Rattle.capture_text.specs.Words.{says_address, says_field, says_word, says_words};
 ghost use Rattle.capture_text.specs.View.{Misses, said_by};
 
-use crate::digits::{number_in, pair_in, push_counted, push_number, push_octets, push_option};
+use crate::digits::{
+    number_in, pair_in, push_counted_in, push_number_in, push_octets_in, push_option_in,
+};
 use crate::refusal::PackRefusal;
 use crate::words::behind;
 use captures::clnp_base::next_word;
@@ -91,16 +93,16 @@ impl Pieces {
             MatchResult result (λ _. reading ≡ Some (said_by self.new)) (λ refusal. Misses refusal reading) }
     {
         if let Some(digits) = behind(b"to=", word) {
-            return push_counted(digits, &mut self.part);
+            return push_counted_in(digits, &mut self.part);
         }
         if let Some(digits) = behind(b"from=", word) {
-            return push_counted(digits, &mut self.part);
+            return push_counted_in(digits, &mut self.part);
         }
         if let Some(digits) = behind(b"via=", word) {
-            return push_counted(digits, &mut self.part);
+            return push_counted_in(digits, &mut self.part);
         }
         if let Some(digits) = behind(b"title=", word) {
-            return push_counted(digits, &mut self.part);
+            return push_counted_in(digits, &mut self.part);
         }
         if let Some(digits) = behind(b"addr=", word) {
             return self.add_listed(digits);
@@ -115,16 +117,16 @@ impl Pieces {
             MatchResult result (λ _. reading ≡ Some (said_by self.new)) (λ refusal. Misses refusal reading) }
     {
         if let Some(digits) = behind(b"id=", word) {
-            return push_octets(digits, &mut self.part);
+            return push_octets_in(digits, &mut self.part);
         }
         if let Some(digits) = behind(b"off=", word) {
-            return push_number(digits, &mut self.part);
+            return push_number_in(digits, &mut self.part);
         }
         if let Some(digits) = behind(b"total=", word) {
-            return push_number(digits, &mut self.part);
+            return push_number_in(digits, &mut self.part);
         }
         if let Some(text) = behind(b"opt=", word) {
-            return push_option(text, &mut self.part);
+            return push_option_in(text, &mut self.part);
         }
         Err(PackRefusal::NotShown)
     }
@@ -158,7 +160,7 @@ impl Pieces {
         ensures { let reading = says_data (said_by self.old) digits.now in
             MatchResult result (λ _. reading ≡ Some (said_by self.new)) (λ refusal. Misses refusal reading) }
     {
-        push_octets(digits, &mut self.behind)?;
+        push_octets_in(digits, &mut self.behind)?;
         self.size = digits.len() / 2;
         Ok(())
     }
@@ -168,7 +170,7 @@ impl Pieces {
         ensures { let reading = says_rest (said_by self.old) digits.now in
             MatchResult result (λ _. reading ≡ Some (said_by self.new)) (λ refusal. Misses refusal reading) }
     {
-        push_octets(digits, &mut self.behind)
+        push_octets_in(digits, &mut self.behind)
     }
 
     /// Adds an address of an end system hello.
@@ -179,7 +181,7 @@ impl Pieces {
         if self.addresses == MOST_ADDRESSES {
             return Err(PackRefusal::NotShown);
         }
-        push_counted(digits, &mut self.part)?;
+        push_counted_in(digits, &mut self.part)?;
         self.addresses += 1;
         Ok(())
     }

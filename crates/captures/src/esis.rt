@@ -6,8 +6,8 @@ ghost use Rattle.esis_pdus.specs.View.{pdu_value};
 ghost use Rattle.esis_pdus.specs.Nsap.Text.{hex_text};
 ghost use Rattle.captures.specs.EsisShown.{ShowsOther, addresses_text, body_text, esis_refusal_text, esis_text, esis_word};
 
-use crate::words::{push_number, push_octets, push_options, push_pair};
-use esis_pdus::clnp_base::{NoMemory, push};
+use crate::words::{push_octets, push_options, push_pair};
+use esis_pdus::clnp_base::{NoMemory, push, push_number};
 use esis_pdus::nsap::Address;
 use esis_pdus::{AddressList, EsisBody, EsisPdu, EsisRefusal, decode};
 
@@ -28,7 +28,7 @@ fn push_refusal(refusal: EsisRefusal, line: &mut Vec<u8>) -> Result<(), NoMemory
     match refusal {
         EsisRefusal::NotEsis => push(b"alien", line),
         EsisRefusal::Broken { rule, place } => {
-            push_number(b"refused E", u16::from(rule), line)?;
+            push_number(b"refused E", u64::from(rule), line)?;
             push_octets(b" ", &[place], line)
         }
     }
@@ -40,7 +40,7 @@ fn push_esis(pdu: EsisPdu<'_>, line: &mut Vec<u8>) -> Result<(), NoMemory>
         ++ esis_text (pdu_value pdu.entry) pdu.entry.sum pdu.entry.rest.now) }
 {
     push(kind_text(&pdu.body), line)?;
-    push_number(b" hold=", pdu.hold, line)?;
+    push_number(b" hold=", u64::from(pdu.hold), line)?;
     push_pair(b" sum=", pdu.sum, line)?;
     push_body(pdu.body, line)?;
     push_options(pdu.options, line)?;

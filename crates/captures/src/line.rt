@@ -7,10 +7,8 @@ ghost use Rattle.esis_pdus.specs.PduHeader.View.{pdu_value, part_value};
 ghost use Rattle.captures.specs.Shown.{Shows, refusal_text, front_text, kind_and_flags_text, part_text, segmentation_text, value_text};
 
 use crate::esis::push_other;
-use crate::words::{
-    flags_text, kind_text, push_number, push_octets, push_options, push_pair, report_text,
-};
-use esis_pdus::clnp_base::{NoMemory, push};
+use crate::words::{flags_text, kind_text, push_octets, push_options, push_pair, report_text};
+use esis_pdus::clnp_base::{NoMemory, push, push_number};
 use esis_pdus::pdu_header::{Broken, Pdu, Refusal, SegPart, decode};
 use std::alloc::Global;
 
@@ -59,7 +57,7 @@ fn push_broken(broken: Broken, line: &mut Vec<u8>) -> Result<(), NoMemory>
     ensures { OnOk result (line.new.items ≡ line.old.items
         ++ refusal_text broken.rule broken.reason broken.place broken.reportable) }
 {
-    push_number(b"refused G", u16::from(broken.rule), line)?;
+    push_number(b"refused G", u64::from(broken.rule), line)?;
     push_octets(b" ", &[broken.reason], line)?;
     push_octets(b" ", &[broken.place], line)?;
     push(b" ", line)?;
@@ -84,7 +82,7 @@ fn push_front(pdu: &Pdu<'_>, line: &mut Vec<u8>) -> Result<(), NoMemory>
     ensures { OnOk result (line.new.items ≡ line.old.items ++ front_text (pdu_value pdu.now) pdu.now.sum) }
 {
     push_kind(pdu, line)?;
-    push_number(b" life=", u16::from(pdu.life), line)?;
+    push_number(b" life=", u64::from(pdu.life), line)?;
     push_pair(b" sum=", pdu.sum, line)?;
     push_octets(b" to=", pdu.to.as_bytes(), line)?;
     push_octets(b" from=", pdu.from.as_bytes(), line)
@@ -115,6 +113,6 @@ fn push_part(part: SegPart, line: &mut Vec<u8>) -> Result<(), NoMemory>
     ensures { OnOk result (line.new.items ≡ line.old.items ++ part_text (part_value part)) }
 {
     push_pair(b" id=", part.id, line)?;
-    push_number(b" off=", part.offset, line)?;
-    push_number(b" total=", part.total, line)
+    push_number(b" off=", u64::from(part.offset), line)?;
+    push_number(b" total=", u64::from(part.total), line)
 }

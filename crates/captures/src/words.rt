@@ -1,13 +1,12 @@
 //! The words and fields of a shown line.
 
 ghost use Rattle.std.specs.Prelude.{◌≡◌, ◌++◌, ◌∷◌, [], OnOk, OnErr, codes, length, IfNone, IfSome, ◌+◌};
-ghost use Rattle.std.specs.Fmt.{decimal};
 ghost use Rattle.esis_pdus.specs.Nsap.Text.{hex_text};
 ghost use Rattle.esis_pdus.specs.ClnpOptions.Parameter.{Parameter, parameters};
 ghost use Rattle.captures.specs.Shown.{kind_word, flags_word, letters_of, letter_of, report_word};
 ghost use Rattle.captures.specs.Words.{octet_word, pair_word, option_text, options_text};
 
-use esis_pdus::clnp_base::{NoMemory, push, push_decimal, push_hex};
+use esis_pdus::clnp_base::{NoMemory, push, push_hex};
 use esis_pdus::clnp_options::first_option;
 use esis_pdus::pdu_header::Kind;
 
@@ -17,14 +16,6 @@ pub(crate) fn push_octets(label: &[u8], octets: &[u8], line: &mut Vec<u8>) -> Re
 {
     push(label, line)?;
     push_hex(octets, line)
-}
-
-/// Appends a label, and a number in decimal digits.
-pub(crate) fn push_number(label: &[u8], number: u16, line: &mut Vec<u8>) -> Result<(), NoMemory>
-    ensures { OnOk result (line.new.items ≡ line.old.items ++ (label.now ++ decimal number)) }
-{
-    push(label, line)?;
-    push_decimal(u64::from(number), line)
 }
 
 /// Appends a label, and a number of two octets in four hexadecimal digits.

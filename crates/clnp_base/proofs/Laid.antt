@@ -1,8 +1,8 @@
 -- Octets laid over cells.
 use Rattle.std.proofs.Common.{◌≡◌, ℕ, ◌+◌, ◌-◌, ◌≤◌, ◌++◌, List, length, take, drop, replicate, arith, ap, sym, ◌∙◌}
 use Rattle.std.proofs.Math.Seq.{drop-append_seam}
-use Rattle.std.proofs.lemmas.List.{append_assoc, drop-drop, drop-replicate, length-append, length-drop, length-take-le}
-use Rattle.std.proofs.lemmas.Slice.{drop-put_mid}
+use Rattle.std.proofs.lemmas.List.{append_assoc, drop-drop, drop-replicate, drop_at, length-append, length-drop, length-take-le}
+use Rattle.std.proofs.lemmas.Slice.{drop-put_mid, take-put_mid}
 use borrow.Rule.Slice.PartMut.{put_mid}
 use Rattle.clnp_base.specs.Inline.{IsInline}
 
@@ -70,3 +70,11 @@ part_size most len start cells part h within e =
     let w = h.within in
     let r = h.room in
     e ∙ length-take-le (len - start) (drop start cells) (omega (arith, length-drop start cells))
+
+pub behind_front : (most len start : ℕ) (cells part : List ℕ) → IsInline most len cells → start ≤ len → length part ≡ len - start
+    → drop start (take len (put_mid start (len - start) cells part)) ≡ part
+behind_front most len start cells part h within size =
+    let w = h.within in
+    let r = h.room in
+    ap (drop start) (take-put_mid start (len - start) cells part len (omega arith) (omega arith))
+    ∙ drop_at (take start cells) part start (length-take-le start cells (omega arith))

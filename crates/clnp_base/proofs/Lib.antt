@@ -14,3 +14,4 @@ pub mod Reading
 pub mod SameOctets
 pub mod Sums
 pub mod Supplying
+mod Worths

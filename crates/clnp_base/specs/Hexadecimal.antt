@@ -26,3 +26,7 @@ worth character = unwrap_or (hex_digit_value character) 255
 -- under each character of a text stands what it is worth
 abbrev pub AreTold : (values text : List ℕ) → Type 0
 AreTold values text = (i : ℕ) → i < length text → slice_index values (slice_index text i) ≡ worth (slice_index text i)
+
+-- at the place of each character stands what it is worth, and 255 where it is no digit
+abbrev pub AreWorths : List ℕ → Type 0
+AreWorths values = (character : ℕ) → character < 256 → slice_index values character ≡ worth character

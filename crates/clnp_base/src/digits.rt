@@ -2,9 +2,58 @@
 //!
 //! To ask it for each digit costs a branch that no processor foretells, and three times as much time.
 ghost use Rattle.std.specs.Prelude.{◌≡◌, ◌≢◌, ◌*◌, length};
-ghost use Rattle.clnp_base.specs.Hexadecimal.{AreTold, Spells, worth};
+ghost use Rattle.clnp_base.specs.Hexadecimal.{AreTold, AreWorths, Spells, worth};
 
 use hex::FromHex;
+use std::marker::Model;
+
+/// What each character is worth as a hexadecimal digit, for texts of many words: to ask it anew for each word costs more than
+/// to read the word.
+///
+/// A contract sees the list of it, with 255 for a character that is none.
+#[derive(Drop)]
+pub struct DigitValues {
+    values: [u8; 256],
+}
+
+impl Model for DigitValues {
+    ghost use Rattle.std.specs.Prelude.{ℕ, List};
+    ghost use Rattle.clnp_base.specs.Hexadecimal.{AreWorths};
+
+    ghost Value = { List ℕ };
+
+    ghost view = { λ digits. digits.values };
+
+    ghost invariant = { λ digits. AreWorths digits.values };
+}
+
+impl DigitValues {
+    /// What each character is worth.
+    pub fn new() -> DigitValues {
+        DigitValues {
+            values: all_values(),
+        }
+    }
+
+    /// Decodes digits, in either case, into the octets' place, and says whether all are digits.
+    pub fn decode(&self, digits: &[u8], place: &mut [u8]) -> bool
+        requires { length digits.now ≡ 2 * length place.old }
+        ensures { Spells result digits.now place.new }
+    {
+        read(digits, &self.values, place)
+    }
+}
+
+/// What each character is worth.
+fn all_values() -> [u8; 256]
+    ensures { AreWorths result }
+{
+    let mut values = [0; 256];
+    for character in 0..256 {
+        values[character] = value_of(character as u8);
+    }
+    values
+}
 
 /// Stands for what wasn't asked yet; no character is worth it.
 const UNASKED: u8 = 254;

@@ -1,5 +1,6 @@
 //! Octets that lie in the value itself.
-ghost use Rattle.std.specs.Prelude.{◌≡◌, ◌+◌, ◌≤◌, ◌++◌, [], length, take, drop, nat_eq};
+ghost use Rattle.std.specs.Prelude.{◌≡◌, ◌+◌, ◌≤◌, ◌∷◌, ◌++◌, [], length, take, drop, nat_eq};
+ghost use Rattle.std.specs.Fn.{FnOnceReturnsAtMut, FnOnceTakesAtMut};
 ghost use Rattle.std.specs.Cmp.{partial_equiv_from_equiv};
 ghost use Rattle.std.specs.Cmp.Lexicographic.{nat_list_eq_equiv, pointwise};
 
@@ -82,6 +83,29 @@ impl<const MOST: usize> InlineOctets<MOST> {
         lay(&mut self.cells, start, piece);
         self.len = (start + piece.len()) as u8;
     }
+
+    /// Puts a piece behind the octets, and before it the octet that tells its length.
+    pub fn push_counted(&mut self, piece: &[u8])
+        requires few { MOST ≤ 255 }
+        requires room { length self.old + 1 + length piece.now ≤ MOST }
+        ensures { self.new ≡ self.old ++ length piece.now ∷ piece.now }
+    {
+        self.push(&[piece.len() as u8]);
+        self.push(piece);
+    }
+
+    /// Changes the octets from an index on in place, as the call of `change` does; their number stays.
+    pub fn change<F: FnOnce(&mut [u8])>(&mut self, start: usize, change: F)
+        requires start { start ≤ length self.old }
+        requires callable { length self.old ≤ MOST → FnOnceTakesAtMut F.FnOnce change (drop start self.old) }
+        ensures front { take start self.new ≡ take start self.old }
+        ensures changed { FnOnceReturnsAtMut F.FnOnce change (drop start self.old) tt (drop start self.new) }
+        ensures len { length self.new ≡ length self.old }
+    {
+        let len = self.len as usize;
+        let cells = &mut self.cells[..];
+        change_part(&mut cells[start..len], change);
+    }
 }
 
 impl<const MOST: usize> PartialEq for InlineOctets<MOST> {
@@ -104,4 +128,12 @@ fn lay(cells: &mut [u8], at: usize, piece: &[u8])
     ensures { cells.new ≡ take at cells.old ++ (piece.now ++ drop (at + length piece.now) cells.old) }
 {
     cells[at..at + piece.len()].copy_from_slice(piece);
+}
+
+/// Changes the octets as the call of `change` does.
+fn change_part<F: FnOnce(&mut [u8])>(part: &mut [u8], change: F)
+    requires { FnOnceTakesAtMut F.FnOnce change part.old }
+    ensures { FnOnceReturnsAtMut F.FnOnce change part.old tt part.new }
+{
+    change(part);
 }

@@ -12,6 +12,7 @@ mod streams;
 mod text;
 
 pub use clock::{Clock, HalfSeconds, MemClock};
+pub use digits::DigitValues;
 pub use inline::InlineOctets;
 pub use memory::{MemSink, MemSource};
 pub use octets::{NoMemory, Octets};

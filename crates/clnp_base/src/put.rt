@@ -1,5 +1,5 @@
 //! Text put behind other text: pieces, hexadecimal digits and decimal numbers; and hexadecimal digits read.
-ghost use Rattle.std.specs.Prelude.{◌≡◌, ◌%◌, ◌++◌, ◌↔◌, length, replicate, OnOk, OnErr};
+ghost use Rattle.std.specs.Prelude.{◌≡◌, ◌%◌, ◌++◌, ◌↔◌, length, take, replicate, OnOk, OnErr};
 ghost use Rattle.std.specs.Fmt.{decimal};
 ghost use Rattle.hex.specs.Hex.{decode_of, encode_lower};
 ghost use Rattle.clnp_base.specs.Hexadecimal.{AppendsSpelled, IsDigitRefusal};
@@ -56,7 +56,8 @@ pub fn push_decimal(number: u64, out: &mut Vec<u8>) -> Result<(), NoMemory>
 ///
 /// `NoMemory`; some of it may stand behind what was in `out` then.
 pub fn push_number(label: &[u8], number: u64, out: &mut Vec<u8>) -> Result<(), NoMemory>
-    ensures { OnOk result (out.new.items ≡ out.old.items ++ (label.now ++ decimal number)) }
+    ensures written { OnOk result (out.new.items ≡ out.old.items ++ (label.now ++ decimal number)) }
+    ensures kept { OnErr result (take (length out.old.items) out.new.items ≡ out.old.items) }
 {
     push(label, out)?;
     push_decimal(number, out)

@@ -10,7 +10,7 @@ use Rattle.clnp_world.specs.Scenario.declared.event.Event.TheVariants as event
 use Rattle.clnp_world.specs.Scenario.declared.event.Move.{Move}
 use Rattle.clnp_world.specs.Scenario.declared.event.Move.TheVariants.{One, SettleOne, LoseOne, TickOne, TickSystem}
 use Rattle.clnp_machine.proofs.Deeds.{step_moment}
-use Rattle.clnp_world.specs.ClnpNetwork.World.{World, after, first_world}
+use Rattle.clnp_world.specs.ClnpNetwork.LabelledNetwork.{LabelledNetwork, after, first_world}
 use Rattle.clnp_world.specs.ClnpNetwork.Clocks.{NoneIsAhead, clock_after, clock_with, clocks_of}
 use Rattle.clnp_world.specs.ClnpNetwork.Run.{moves_of_plan, world_after}
 use Rattle.clnp_world.specs.State.{WorldState}
@@ -30,11 +30,11 @@ set_on clock clocks LoseOne behind = omega arith
 set_on clock clocks TickOne behind = omega arith
 set_on clock clocks (TickSystem place) behind = passed_by_one clock (slice_get clocks place) (behind place)
 
-move_sets_on : (plan : Plan) (w : World) (move : Move) → NoneIsAhead w → (after plan w move).world.clock ≤ w.clock + tick_of move
+move_sets_on : (plan : Plan) (w : LabelledNetwork) (move : Move) → NoneIsAhead w → (after plan w move).world.clock ≤ w.clock + tick_of move
 move_sets_on plan w move none =
     subst (λ clock. clock ≤ w.clock + tick_of move) (sym (clock_by step_moment plan w move)) (set_on w.clock (clocks_of w) move (behind_of w none))
 
-moves_set_on : (plan : Plan) (w : World) (moves : List Move) → NoneIsAhead w → (world_after plan w moves).clock ≤ w.clock + ticks_in moves
+moves_set_on : (plan : Plan) (w : LabelledNetwork) (moves : List Move) → NoneIsAhead w → (world_after plan w moves).clock ≤ w.clock + ticks_in moves
 moves_set_on plan w [] none = omega arith
 moves_set_on plan w (move ∷ moves) none =
     let first = move_sets_on plan w move none in

@@ -8,7 +8,7 @@ use Rattle.clnp_machine.specs.ClnpPlan.Journal.{Line, Noted, Transmitted, Void, 
 use Rattle.std.specs.Fmt.{decimal}
 use Rattle.clnp_world.specs.Scenario.Scenario.{Plan}
 use Rattle.clnp_world.specs.Scenario.declared.event.Move.{Move}
-use Rattle.clnp_world.specs.ClnpNetwork.World.{Step, World, after}
+use Rattle.clnp_world.specs.ClnpNetwork.LabelledNetwork.{Step, LabelledNetwork, after}
 use Rattle.clnp_world.specs.ClnpNetwork.Run.{lines_text, text_of, world_after}
 use Rattle.clnp_world.specs.Lines.{both, tally}
 use Rattle.clnp_world.specs.declared.lines.Counts.{Counts}
@@ -94,7 +94,7 @@ lines_text-ends (line ∷ lines) =
     rw (flat_map-cons line_text line lines) (ends-append (line_text line) (lines_text lines) (line_text-ends line) (lines_text-ends lines))
 
 -- the text of moves ends with the end of a line, if it isn't empty
-pub text_of-ends : (plan : Plan) (w : World) (moves : List Move) → EndsLines (text_of plan w moves)
+pub text_of-ends : (plan : Plan) (w : LabelledNetwork) (moves : List Move) → EndsLines (text_of plan w moves)
 text_of-ends plan w [] = ends-none
 text_of-ends plan w (move ∷ moves) =
     ends-append (lines_text (after plan w move).lines) (text_of plan (after plan w move).world moves)
@@ -129,7 +129,7 @@ lines_counts (line ∷ lines) h =
     ∙ sym (tally-append (line ∷ []) lines))))
 
 -- so it is of the text of moves
-pub moves_counts : (plan : Plan) (w : World) (moves : List Move) → AreNamedSubnets plan.subnets → AreNamed w
+pub moves_counts : (plan : Plan) (w : LabelledNetwork) (moves : List Move) → AreNamedSubnets plan.subnets → AreNamed w
     → counts_of (text_of plan w moves) ≡ tally_of plan w moves
 moves_counts plan w [] named h = refl
 moves_counts plan w (move ∷ moves) named h =
@@ -141,7 +141,7 @@ moves_counts plan w (move ∷ moves) named h =
 
 -- ---- moves one behind the other
 
-pub tally_of-append : (plan : Plan) (w : World) (made more : List Move)
+pub tally_of-append : (plan : Plan) (w : LabelledNetwork) (made more : List Move)
     → tally_of plan w (made ++ more) ≡ both (tally_of plan w made) (tally_of plan (world_after plan w made) more)
 tally_of-append plan w [] more = sym (none-both (tally_of plan w more))
 tally_of-append plan w (move ∷ made) more =

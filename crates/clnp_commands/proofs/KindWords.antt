@@ -14,9 +14,9 @@ use Rattle.clnp_machine.specs.PduHeader.Spelling.{pair_of}
 use Rattle.clnp_machine.specs.PduHeader.declared.kind.Kind.{Kind}
 use Rattle.clnp_machine.specs.PduHeader.declared.kind.Kind.TheVariants.{Dt, Er, Erq, Erp}
 use Rattle.clnp_machine.specs.EsisTables.declared.fact.Heard.{Heard}
-use Rattle.clnp_machine.specs.EsisTables.declared.fact.Heard.TheVariants as heard
+use Rattle.clnp_machine.specs.EsisTables.declared.fact.Heard.TheVariants as hearing
 use Rattle.clnp_machine.specs.EsisTables.declared.fact.TableKind.{TableKind}
-use Rattle.clnp_machine.specs.EsisTables.declared.fact.TableKind.TheVariants as table
+use Rattle.clnp_machine.specs.EsisTables.declared.fact.TableKind.TheVariants as table_kind
 use Rattle.clnp_machine.specs.ClnpBase.Text.{lines_of, words_of}
 use Rattle.clnp_machine.specs.ClnpPlan.Journal.{Line, Noted, Transmitted, Void, Late, Injected, Resized, Received, Lost, ForNobody, behind_space, heard_words, identifier_word, ignored_word, kind_word, line_of, line_text, note_words, octet_word, octets_word, on_or_off, rule_word, table_word, target_text, why_word, yes_or_no}
 use Rattle.clnp_machine.specs.ClnpPlan.declared.note.Note.{Note}
@@ -94,15 +94,15 @@ why_in_line why.Quiet = word_in_line (codes "quiet") (spelled (codes "quiet") re
 why_in_line why.IdsBusy = word_in_line (codes "ids-busy") (spelled (codes "ids-busy") refl)
 
 table_in_line : (kind : TableKind) → IsInLine (table_word kind)
-table_in_line table.Es = word_in_line (codes "es") (spelled (codes "es") refl)
-table_in_line table.Is = word_in_line (codes "is") (spelled (codes "is") refl)
-table_in_line table.Rd = word_in_line (codes "rd") (spelled (codes "rd") refl)
+table_in_line table_kind.Es = word_in_line (codes "es") (spelled (codes "es") refl)
+table_in_line table_kind.Is = word_in_line (codes "is") (spelled (codes "is") refl)
+table_in_line table_kind.Rd = word_in_line (codes "rd") (spelled (codes "rd") refl)
 
 heard_in_line : (came : Heard) → AllByRecursion IsInLine (heard_words came)
-heard_in_line heard.New = (word_in_line (codes "new") (spelled (codes "new") refl), tt)
-heard_in_line heard.Again = (word_in_line (codes "again") (spelled (codes "again") refl), tt)
-heard_in_line heard.Zero = (word_in_line (codes "zero") (spelled (codes "zero") refl), tt)
-heard_in_line (heard.Full entries) = (word_in_line (codes "full") (spelled (codes "full") refl), (decimal_in_line entries, tt))
+heard_in_line hearing.New = (word_in_line (codes "new") (spelled (codes "new") refl), tt)
+heard_in_line hearing.Again = (word_in_line (codes "again") (spelled (codes "again") refl), tt)
+heard_in_line hearing.Zero = (word_in_line (codes "zero") (spelled (codes "zero") refl), tt)
+heard_in_line (hearing.Full entries) = (word_in_line (codes "full") (spelled (codes "full") refl), (decimal_in_line entries, tt))
 
 ignored_in_line : (rd : Bool) → IsInLine (ignored_word rd)
 ignored_in_line true = word_in_line (codes "rd") (spelled (codes "rd") refl)

@@ -1,3 +1,4 @@
+mod Advising
 pub mod Playing
 pub mod Runs
 pub mod Clocks

@@ -8,8 +8,8 @@ use Rattle.clnp_machine.specs.ClnpBase.Streams.{AppendsFront}
 use Rattle.clnp_machine.specs.ClnpPlan.declared.journal.Telling.{Telling}
 use Rattle.clnp_world.specs.Scenario.Scenario.{Plan}
 use Rattle.clnp_world.specs.Scenario.declared.event.Move.{Move}
-use Rattle.clnp_world.specs.ClnpNetwork.World as network
-use Rattle.clnp_world.specs.ClnpNetwork.World.{after, first_world, is_full, weight}
+use Rattle.clnp_world.specs.ClnpNetwork.LabelledNetwork as network
+use Rattle.clnp_world.specs.ClnpNetwork.LabelledNetwork.{after, first_world, is_full, weight}
 use Rattle.clnp_world.specs.ClnpNetwork.Run.{ending, last_world, moves_of_plan, stopped_at, told, told_lines, told_of, until_full, world_after, world_end}
 use Rattle.clnp_world.specs.State.{WorldState}
 use Rattle.clnp_world.specs.Stands.{Stands}
@@ -21,7 +21,7 @@ use Rattle.capture_commands.proofs.CommandBase.Fronts.{front-behind, front-longe
 use Rattle.clnp_commands.proofs.Runs.{world_after-append, told_of_more, full_weight-behind, full_stays, all_are_made, until_full-behind, until_full-longer}
 
 -- where playing stopped, it did so before any moves that come later
-StopOf-longer : (form : Telling) (plan : Plan) (model : network.World) (moves later : List Move) (a b : Option (List ℕ)) (e : Stop)
+StopOf-longer : (form : Telling) (plan : Plan) (model : network.LabelledNetwork) (moves later : List Move) (a b : Option (List ℕ)) (e : Stop)
     → StopOf form plan model moves a b e → StopOf form plan model (moves ++ later) a b e
 StopOf-longer form plan model moves later a b stop.WriteFault q =
     let rest = until_full-longer plan model moves later in
@@ -42,7 +42,7 @@ StopOf-longer form plan model moves later a b (stop.WorldFull octets) q =
     }
 
 -- nothing was played yet, and nothing waits
-pub set_out : (form : Telling) (plan : Plan) (model : network.World) (code : WorldState) (a : Option (List ℕ)) → Stands code model → UnderWay form plan model [] code a a []
+pub set_out : (form : Telling) (plan : Plan) (model : network.LabelledNetwork) (code : WorldState) (a : Option (List ℕ)) → Stands code model → UnderWay form plan model [] code a a []
 set_out form plan model code a stands = record {
   made = [];
   waiting = [];
@@ -53,7 +53,7 @@ set_out form plan model code a stands = record {
   waits = refl;
 }
 
-module _ (form : Telling) (plan : Plan) (model : network.World) (past : List Move) (code : WorldState) (a b : Option (List ℕ)) (block : List ℕ) where
+module _ (form : Telling) (plan : Plan) (model : network.LabelledNetwork) (past : List Move) (code : WorldState) (a b : Option (List ℕ)) (block : List ℕ) where
   -- the text of the moves so far: what is written, and what waits
   pub text_so_far : (u : UnderWay form plan model past code a b block) → told_of form plan model past ≡ told_of form plan model u.made ++ block
   text_so_far u = ap (told_of form plan model) u.split ∙ (told_of_more form plan model u.made u.waiting ∙ ap (λ (t : List ℕ). told_of form plan model u.made ++ t) (sym u.waits))
@@ -136,7 +136,7 @@ module _ (form : Telling) (plan : Plan) (model : network.World) (past : List Mov
   full_before move octets c stop.NoMemory u full is p = absurd p
 
 -- playing stopped in the moves that come next, of all that were to be made
-pub stopped_next : (form : Telling) (plan : Plan) (model : network.World) (past all made next later : List Move) (a b : Option (List ℕ)) (e : Stop)
+pub stopped_next : (form : Telling) (plan : Plan) (model : network.LabelledNetwork) (past all made next later : List Move) (a b : Option (List ℕ)) (e : Stop)
     → all ≡ (made ++ next) ++ later → StopOf form plan model ((past ++ made) ++ next) a b e → StopOf form plan model (past ++ all) a b e
 stopped_next form plan model past all made next later a b e split q =
     let same : past ++ all ≡ ((past ++ made) ++ next) ++ later =

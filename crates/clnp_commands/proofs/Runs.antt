@@ -6,17 +6,17 @@ use Rattle.std.proofs.Math.Seq.{take-suc}
 use Rattle.clnp_world.specs.Scenario.Scenario.{Plan, moves_of, moves_from}
 use Rattle.clnp_world.specs.Scenario.declared.event.Event.{Event}
 use Rattle.clnp_world.specs.Scenario.declared.event.Move.{Move}
-use Rattle.clnp_world.specs.ClnpNetwork.World.{World, after, is_full, weight}
+use Rattle.clnp_world.specs.ClnpNetwork.LabelledNetwork.{LabelledNetwork, after, is_full, weight}
 use Rattle.clnp_world.specs.ClnpNetwork.Run.{full_weight, until_full, world_after}
 pub use Rattle.clnp_safety.proofs.Stops.{all_are_made, told_of_more}
 use Rattle.clnp_machine.proofs.ClnpBase.Choices.{if_none}
 
-pub world_after-append : (plan : Plan) (w : World) (made more : List Move) → world_after plan w (made ++ more) ≡ world_after plan (world_after plan w made) more
+pub world_after-append : (plan : Plan) (w : LabelledNetwork) (made more : List Move) → world_after plan w (made ++ more) ≡ world_after plan (world_after plan w made) more
 world_after-append plan w [] more = refl
 world_after-append plan w (move ∷ made) more = world_after-append plan (after plan w move).world made more
 
 -- the network isn't full before any of the first moves, so what is made of those behind them comes behind them
-pub until_full-behind : (plan : Plan) (w : World) (made more : List Move) → full_weight plan w made ≡ None
+pub until_full-behind : (plan : Plan) (w : LabelledNetwork) (made more : List Move) → full_weight plan w made ≡ None
     → until_full plan w (made ++ more) ≡ made ++ until_full plan (world_after plan w made) more
 until_full-behind plan w [] more h = refl
 until_full-behind plan w (move ∷ made) more h =
@@ -24,7 +24,7 @@ until_full-behind plan w (move ∷ made) more h =
     ap (λ (full : Bool). if full then [] else move ∷ until_full plan (after plan w move).world (made ++ more)) room.0
     ∙ ap (λ (t : List Move). move ∷ t) (until_full-behind plan (after plan w move).world made more room.1)
 
-pub full_weight-behind : (plan : Plan) (w : World) (made more : List Move) → full_weight plan w made ≡ None
+pub full_weight-behind : (plan : Plan) (w : LabelledNetwork) (made more : List Move) → full_weight plan w made ≡ None
     → full_weight plan w (made ++ more) ≡ full_weight plan (world_after plan w made) more
 full_weight-behind plan w [] more h = refl
 full_weight-behind plan w (move ∷ made) more h =
@@ -38,7 +38,7 @@ longer_by_one true move made all h = ([], refl)
 longer_by_one false move made all h = (h.0, ap (λ (t : List Move). move ∷ t) h.1)
 
 -- of more moves as many are made, or more
-pub until_full-longer : (plan : Plan) (w : World) (moves later : List Move)
+pub until_full-longer : (plan : Plan) (w : LabelledNetwork) (moves later : List Move)
     → (rest : List Move) × (until_full plan w (moves ++ later) ≡ until_full plan w moves ++ rest)
 until_full-longer plan w [] later = (until_full plan w later, refl)
 until_full-longer plan w (move ∷ moves) later =
@@ -53,7 +53,7 @@ full_by_one false weighs octets move made all rest more h is =
     let both = h is in (both.0, ap (λ (t : List Move). move ∷ t) both.1)
 
 -- where the network was full before a move, moves behind it change nothing
-pub full_stays : (plan : Plan) (w : World) (moves later : List Move) (octets : ℕ) → full_weight plan w moves ≡ Some octets
+pub full_stays : (plan : Plan) (w : LabelledNetwork) (moves later : List Move) (octets : ℕ) → full_weight plan w moves ≡ Some octets
     → (full_weight plan w (moves ++ later) ≡ Some octets) × (until_full plan w (moves ++ later) ≡ until_full plan w moves)
 full_stays plan w [] later octets h = absurd (cc)
 full_stays plan w (move ∷ moves) later octets h =

@@ -7,7 +7,7 @@ use Rattle.clnp_machine.specs.ClnpPlan.declared.journal.Telling.{Telling}
 use Rattle.clnp_world.specs.Scenario.Scenario.{Plan}
 use Rattle.clnp_world.specs.Scenario.declared.event.Move.{Move}
 use Rattle.clnp_world.specs.Scenario.declared.event.Move.TheVariants.{SettleOne}
-use Rattle.clnp_world.specs.ClnpNetwork.World.{Copy, Step, World, after, is_full, nothing, settle_copy, weight}
+use Rattle.clnp_world.specs.ClnpNetwork.LabelledNetwork.{Copy, Step, LabelledNetwork, after, is_full, nothing, settle_copy, weight}
 use Rattle.clnp_world.specs.ClnpNetwork.Run.{full_weight, told_lines, told_of, world_after}
 use Rattle.clnp_world.specs.Lines.{both, no_lines, tally}
 use Rattle.clnp_world.specs.State.{WorldState}
@@ -20,18 +20,18 @@ use Rattle.clnp_commands.proofs.Counting.{none-both}
 use Rattle.clnp_machine.proofs.ClnpBase.Choices.{if_none}
 
 -- to settle a copy where none is left changes nothing
-pub settled_after : (plan : Plan) (w : World) → length w.copies ≤ w.cursor → after plan w SettleOne ≡ nothing w
+pub settled_after : (plan : Plan) (w : LabelledNetwork) → length w.copies ≤ w.cursor → after plan w SettleOne ≡ nothing w
 settled_after plan w past = ap (λ (copy : Option Copy). settle_copy plan.limits w copy) (slice_get_past w.copies w.cursor past)
 
 -- however often
-pub record IsStill (plan : Plan) (w : World) (moves : List Move) : Type 0 where
+pub record IsStill (plan : Plan) (w : LabelledNetwork) (moves : List Move) : Type 0 where
   pub world : world_after plan w moves ≡ w
   pub text : (form : Telling) → told_of form plan w moves ≡ []
   pub counted : tally_of plan w moves ≡ no_lines
   -- nor does the network get full
   pub room : is_full w ≡ false → full_weight plan w moves ≡ None
 
-still_settled : (plan : Plan) (w : World) (times : ℕ) → length w.copies ≤ w.cursor → IsStill plan w (replicate times SettleOne)
+still_settled : (plan : Plan) (w : LabelledNetwork) (times : ℕ) → length w.copies ≤ w.cursor → IsStill plan w (replicate times SettleOne)
 still_settled plan w zero past = record { world = refl; text = λ form. refl; counted = refl; room = λ _. refl }
 still_settled plan w (suc times) past =
     let h = still_settled plan w times past in
@@ -48,14 +48,14 @@ still_settled plan w (suc times) past =
 
 -- The same move is made some times, and once more, and no copy was left to settle before that: the world is as it was, and
 -- the others are still.
-pub record Rests (plan : Plan) (model : World) (front : List Move) (move : Move) (times : ℕ) : Type 0 where
+pub record Rests (plan : Plan) (model : LabelledNetwork) (front : List Move) (move : Move) (times : ℕ) : Type 0 where
   pub same : world_after plan model (front ++ move ∷ []) ≡ world_after plan model front
   pub still : IsStill plan (world_after plan model (front ++ move ∷ [])) (replicate times move)
 
-pub rests : (plan : Plan) (model : World) (front : List Move) (move : Move) (times : ℕ) → move ≡ SettleOne
+pub rests : (plan : Plan) (model : LabelledNetwork) (front : List Move) (move : Move) (times : ℕ) → move ≡ SettleOne
     → nat_le (length (world_after plan model front).copies) (world_after plan model front).cursor ≡ true → Rests plan model front move times
 rests plan model front move times is settled =
-    let w : World = world_after plan model front in
+    let w : LabelledNetwork = world_after plan model front in
     let past : length w.copies ≤ w.cursor = leb-true (length w.copies) w.cursor settled in
     let same : world_after plan model (front ++ move ∷ []) ≡ w
     = world_after-append plan model front (move ∷ [])
@@ -63,35 +63,35 @@ rests plan model front move times is settled =
     record {
       same = same;
       still = subst (λ (m : Move). IsStill plan (world_after plan model (front ++ move ∷ [])) (replicate times m)) (sym is)
-          (subst (λ (v : World). IsStill plan v (replicate times SettleOne)) (sym same) (still_settled plan w times past));
+          (subst (λ (v : LabelledNetwork). IsStill plan v (replicate times SettleOne)) (sym same) (still_settled plan w times past));
     }
 
 -- where the network wasn't full before any of the moves so far, it isn't before the others
-pub rests_room : (plan : Plan) (model : World) (front : List Move) (move : Move) (times : ℕ) (r : Rests plan model front move times)
+pub rests_room : (plan : Plan) (model : LabelledNetwork) (front : List Move) (move : Move) (times : ℕ) (r : Rests plan model front move times)
     → full_weight plan model front ≡ None → full_weight plan model (front ++ move ∷ []) ≡ None
     → full_weight plan (world_after plan model (front ++ move ∷ [])) (replicate times move) ≡ None
 rests_room plan model front move times r before room =
-    let w : World = world_after plan model front in
+    let w : LabelledNetwork = world_after plan model front in
     let here : full_weight plan w (move ∷ []) ≡ None = sym (full_weight-behind plan model front (move ∷ []) before) ∙ room in
     let not : is_full w ≡ false = (if_none (is_full w) (weight w) None here).0 in
     r.still.room (ap is_full r.same ∙ not)
 
 -- moves that are played
 
-pub stands_rest : (plan : Plan) (model : World) (move : Move) (made times : ℕ) (code : WorldState) → made < times → move ≡ SettleOne
+pub stands_rest : (plan : Plan) (model : LabelledNetwork) (move : Move) (made times : ℕ) (code : WorldState) → made < times → move ≡ SettleOne
     → nat_le (length (world_after plan model (replicate made move)).copies) (world_after plan model (replicate made move)).cursor ≡ true
     → Stands code (world_after plan (world_after plan model (replicate made move)) (move ∷ []))
     → Stands code (world_after plan model (replicate times move))
 stands_rest plan model move made times code within is settled stands =
     let front : List Move = replicate made move in
     let r = rests plan model front move (times - (made + 1)) is settled in
-    subst (λ (w : World). Stands code w)
+    subst (λ (w : LabelledNetwork). Stands code w)
     (sym (ap (world_after plan model) (replicate_next made times move within)
     ∙ (world_after-append plan model (front ++ move ∷ []) (replicate (times - (made + 1)) move)
     ∙ (r.still.world ∙ world_after-append plan model front (move ∷ [])))))
     stands
 
-pub plays_rest : (form : Telling) (plan : Plan) (model : World) (past : List Move) (move : Move) (made times : ℕ) (between code : WorldState) (a b c : Option (List ℕ)) (block new : List ℕ)
+pub plays_rest : (form : Telling) (plan : Plan) (model : LabelledNetwork) (past : List Move) (move : Move) (made times : ℕ) (between code : WorldState) (a b c : Option (List ℕ)) (block new : List ℕ)
     → made < times → move ≡ SettleOne
     → nat_le (length (world_after plan model (past ++ replicate made move)).copies) (world_after plan model (past ++ replicate made move)).cursor ≡ true
     → UnderWay form plan model (past ++ replicate made move) between a b block
@@ -109,14 +109,14 @@ plays_rest form plan model past move made times between code a b c block new wit
     let here : world_after plan (world_after plan model u.made) u.waiting ≡ world_after plan model so_far
     = sym (ap (world_after plan model) u.split ∙ world_after-append plan model u.made u.waiting) in
     let none : told_of form plan (world_after plan (world_after plan model u.made) u.waiting) rest ≡ []
-    = ap (λ (w : World). told_of form plan w rest) here ∙ r.still.text form in
+    = ap (λ (w : LabelledNetwork). told_of form plan w rest) here ∙ r.still.text form in
     subst (λ (moves : List Move). UnderWay form plan model moves code a c new) all
     record {
       made = u.made;
       waiting = u.waiting ++ rest;
       split = ap (λ (t : List Move). t ++ rest) u.split ∙ append_assoc u.made u.waiting rest;
       room = full_weight-behind plan model so_far rest u.room ∙ rests_room plan model front move (times - (made + 1)) r before.room u.room;
-      stands = subst (λ (w : World). Stands code w) (sym (world_after-append plan model so_far rest ∙ r.still.world)) u.stands;
+      stands = subst (λ (w : LabelledNetwork). Stands code w) (sym (world_after-append plan model so_far rest ∙ r.still.world)) u.stands;
       appended = u.appended;
       waits = u.waits
           ∙ sym (told_of_more form plan (world_after plan model u.made) u.waiting rest

@@ -9,13 +9,13 @@ use Rattle.clnp_world.specs.Scenario.Scenario.{IsFit, Plan}
 use Rattle.clnp_world.specs.Scenario.Seeds.{storm}
 use Rattle.clnp_world.specs.Scenario.declared.event.Move.{Move}
 use Rattle.clnp_world.specs.Scenario.declared.event.Move.TheVariants.{SettleOne}
-use Rattle.clnp_world.specs.ClnpNetwork.World as network
-use Rattle.clnp_world.specs.ClnpNetwork.World.{Step, after, first_world, is_full, weight}
+use Rattle.clnp_world.specs.ClnpNetwork.LabelledNetwork as network
+use Rattle.clnp_world.specs.ClnpNetwork.LabelledNetwork.{Step, after, first_world, is_full, weight}
 use Rattle.clnp_world.specs.ClnpNetwork.Run.{full_weight, journal, last_world, moves_of_plan, stopped_at, text_of, world_after, world_end}
 use Rattle.clnp_world.specs.State.{WorldState}
 use Rattle.clnp_world.specs.Stands.{Stands}
 use Rattle.clnp_world.specs.declared.world.WorldRefusal.{WorldRefusal}
-use Rattle.clnp_world.specs.declared.world.WorldRefusal.TheVariants as refusal
+use Rattle.clnp_world.specs.declared.world.WorldRefusal.TheVariants as world_refusal
 use Rattle.clnp_world.specs.Lines.{both, no_lines}
 use Rattle.clnp_world.specs.declared.lines.Counts.{Counts}
 use Rattle.clnp_commands.specs.declared.storm.Summary.{Summary}
@@ -33,7 +33,7 @@ use Rattle.clnp_commands.proofs.Playing.{told_whole}
 use Rattle.clnp_commands.proofs.Still.{rests, rests_room}
 use Rattle.clnp_commands.proofs.Runs.{world_after-append, full_weight-behind, full_stays, replicate_next, all_are_made}
 
-module _ (plan : Plan) (model : network.World) where
+module _ (plan : Plan) (model : network.LabelledNetwork) where
   -- no move was made yet
   pub count_none : (code : WorldState) (counts : Counts) → Stands code model → Counted plan model [] code counts counts
   count_none code counts stands = record {
@@ -60,14 +60,14 @@ module _ (plan : Plan) (model : network.World) where
   pub count_stopped : (all made next later : List Move) (between : WorldState) (old middle : Counts) (refused : WorldRefusal)
       → all ≡ (made ++ next) ++ later → Counted plan model made between old middle
       → StopsAt plan (world_after plan model made) next refused → StopsAt plan model all refused
-  count_stopped all made next later between old middle (refusal.WorldFull octets) split c d =
+  count_stopped all made next later between old middle (world_refusal.WorldFull octets) split c d =
       let here : full_weight plan model (made ++ next) ≡ Some octets = full_weight-behind plan model made next c.room ∙ d in
       let stays = full_stays plan model (made ++ next) later octets here in
       ap (full_weight plan model) split ∙ stays.0
-  count_stopped all made next later between old middle refusal.NoMemory split c d = tt
+  count_stopped all made next later between old middle world_refusal.NoMemory split c d = tt
 
 -- so many times the same move is made, where after some of them no copy is left to settle
-pub count_rest : (plan : Plan) (model : network.World) (move : Move) (made times : ℕ) (between code : WorldState) (old middle new : Counts)
+pub count_rest : (plan : Plan) (model : network.LabelledNetwork) (move : Move) (made times : ℕ) (between code : WorldState) (old middle new : Counts)
     → made < times → move ≡ SettleOne
     → nat_le (length (world_after plan model (replicate made move)).copies) (world_after plan model (replicate made move)).cursor ≡ true
     → Counted plan model (replicate made move) between old middle
@@ -80,7 +80,7 @@ count_rest plan model move made times between code old middle new within is sett
     subst (λ (moves : List Move). Counted plan model moves code old new) (sym (replicate_next made times move within))
     (count_more plan model (front ++ move ∷ []) (replicate (times - (made + 1)) move) code code old new new so_far record {
       room = rests_room plan model front move (times - (made + 1)) r before.room so_far.room;
-      stands = subst (λ (w : network.World). Stands code w) (sym r.still.world) so_far.stands;
+      stands = subst (λ (w : network.LabelledNetwork). Stands code w) (sym r.still.world) so_far.stands;
       counted = sym (ap (λ (t : Counts). both new t) r.still.counted ∙ both-none new);
     })
 
@@ -97,8 +97,8 @@ pub summary_is : (seed events copies clock : ℕ) (plan : Plan) (code : WorldSta
     → SumOf seed plan (Ok (record { seed = seed; events = events; copies = copies; counts = counts; clock = clock }))
 summary_is seed events copies clock plan code counts fit c events_are copies_are clock_is =
     let moves : List Move = moves_of_plan plan in
-    let first : network.World = first_world plan in
-    let last : network.World = world_after plan first moves in
+    let first : network.LabelledNetwork = first_world plan in
+    let last : network.LabelledNetwork = world_after plan first moves in
     let same : last ≡ last_world plan = ap (world_after plan first) (sym (all_are_made plan first moves c.room)) in
     let of_moves : counts ≡ counts_of (text_of plan first moves) =
     c.counted ∙ (none-both (tally_of plan first moves) ∙ sym (moves_counts plan first moves (names_subnets plan fit) (names_first plan fit))) in
@@ -109,7 +109,7 @@ summary_is seed events copies clock plan code counts fit c events_are copies_are
     ∙ both-none (counts_of (text_of plan first moves)))) in (
       c.room,
       made_of seed events copies clock (length plan.events) (length (last_world plan).copies) (last_world plan).clock counts (counts_of (journal plan))
-          events_are (copies_are ∙ ap (λ (w : network.World). length w.copies) same) (clock_is ∙ ap (λ (w : network.World). w.clock) same)
+          events_are (copies_are ∙ ap (λ (w : network.LabelledNetwork). length w.copies) same) (clock_is ∙ ap (λ (w : network.LabelledNetwork). w.clock) same)
           (of_moves ∙ sym of_all),
     )
 

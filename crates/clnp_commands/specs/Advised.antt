@@ -13,8 +13,8 @@ abbrev pub is_bad_input : Status → Bool
 is_bad_input (BadInput line code) = true
 is_bad_input _ = false
 
--- the commands that tell of a bad input more than its first bad line and its code: those that read scenario texts, captures
--- and vectors
+-- the commands that read their whole input and tell of a bad one more than its first bad line and its code: those that read
+-- scenario texts, captures and vectors
 abbrev pub advises : WholeCommand → Bool
 advises Sim = true
 advises Trace = true
@@ -26,7 +26,7 @@ advises _ = false
 abbrev pub is_of_advising : Result Command ℕ → Bool
 is_of_advising (Ok (Whole command)) = advises command
 is_of_advising (Ok (Streamed command)) = false
-is_of_advising (Ok (Run turns)) = false
+is_of_advising (Ok (Run turns)) = true
 is_of_advising (Err at) = false
 
 -- whether more is told beside the answer to words

@@ -31,7 +31,8 @@ pub record TextsAgree : Type 0 where
       → IsReadAs octets records ending → TellsRecords Remade 1 records output
       → (make_status 1 (lines_of output) ≡ Done) × (frames_of (lines_of output) ≡ frames_in records)
   -- Of the file that `pcap-make` makes of lines `pcap-lines` writes the lines of its frames, and nothing else.
-  pub made_lines : (lines : List (List ℕ)) (output : List ℕ) → TellsRecords Remade 1 (map made_record (frames_of lines)) output
+  pub made_lines : (lines : List (List ℕ)) (output : List ℕ)
+      → TellsRecords Remade 1 (map made_record (frames_of lines)) output
       → output ≡ lines_of_frames (frames_of lines)
   -- `migrate` of each text of version 1 is the canonical text of its scenario in version 2, in which all clocks tick together; that
   -- text is read as this scenario, and its run and its journal are the same.

@@ -7,7 +7,9 @@ use Rattle.clnp_commands.specs.declared.command.Command.{Command}
 use Rattle.clnp_commands.specs.declared.command.Command.TheVariants.{Whole, Streamed, Run}
 
 -- What a call comes to whose words run a node; every other one leaves the board and the clock as they are.
-abbrev pub RunsAs : Result Command ℕ → (left_before left_after before after : Option (List ℕ)) → (ports_before ports_after : List PortState) → (moments_before moments_after : Option (List ℕ)) → (same_sink same_board same_clock read_rose write_rose : Type 0) → Status → Type 0
+abbrev pub RunsAs : Result Command ℕ → (left_before left_after before after : Option (List ℕ))
+    → (ports_before ports_after : List PortState) → (moments_before moments_after : Option (List ℕ))
+    → (same_sink same_board same_clock read_rose write_rose : Type 0) → Status → Type 0
 RunsAs (Ok (Run turns)) left_before left_after before after ports_before ports_after moments_before moments_after same_sink same_board same_clock read_rose write_rose status =
     ServesRun turns left_before left_after before after ports_before ports_after moments_before moments_after
     (same_sink × (same_board × same_clock)) read_rose write_rose status

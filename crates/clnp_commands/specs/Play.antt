@@ -5,7 +5,7 @@ use Rattle.clnp_machine.specs.ClnpBase.Streams.{AppendsFront}
 use Rattle.clnp_machine.specs.ClnpPlan.declared.journal.Telling.{Telling}
 use Rattle.clnp_world.specs.Scenario.Scenario.{Plan}
 use Rattle.clnp_world.specs.Scenario.declared.event.Move.{Move}
-use Rattle.clnp_world.specs.ClnpNetwork.World as network
+use Rattle.clnp_world.specs.ClnpNetwork.LabelledNetwork as network
 use Rattle.clnp_world.specs.ClnpNetwork.Run.{told, told_of, world_after, full_weight, stopped_at, until_full}
 use Rattle.clnp_world.specs.State.{WorldState}
 use Rattle.clnp_world.specs.Stands.{Stands}
@@ -22,7 +22,7 @@ PieceOf piece before after (Err (stop.WorldFull octets)) = ⊥
 
 -- The moves were made, and before none of them was the network full: the text of the first of them is written, and that
 -- of the others waits in a block.
-pub record UnderWay (form : Telling) (plan : Plan) (model : network.World) (moves : List Move) (code : WorldState) (before after : Option (List ℕ)) (block : List ℕ) : Type 0 where
+pub record UnderWay (form : Telling) (plan : Plan) (model : network.LabelledNetwork) (moves : List Move) (code : WorldState) (before after : Option (List ℕ)) (block : List ℕ) : Type 0 where
   pub made : List Move
   pub waiting : List Move
   pub split : moves ≡ made ++ waiting
@@ -32,19 +32,21 @@ pub record UnderWay (form : Telling) (plan : Plan) (model : network.World) (move
   pub waits : block ≡ told_of form plan (world_after plan model made) waiting
 
 -- the network was full before one of the moves, and the text of those before it was written
-pub record PlaysUntilFull (form : Telling) (plan : Plan) (model : network.World) (moves : List Move) (octets : ℕ) (before after : Option (List ℕ)) : Type 0 where
+pub record PlaysUntilFull (form : Telling) (plan : Plan) (model : network.LabelledNetwork) (moves : List Move) (octets : ℕ) (before after : Option (List ℕ)) : Type 0 where
   pub full : full_weight plan model moves ≡ Some octets
   pub appended : Appends before after (told_of form plan model (until_full plan model moves))
 
 -- What was written where playing moves stopped: a front of the text of the moves that are made, or that of some whole
 -- moves, or all of it where the network was full.
-abbrev pub StopOf : Telling → Plan → network.World → List Move → Option (List ℕ) → Option (List ℕ) → Stop → Type 0
+abbrev pub StopOf : Telling → Plan → network.LabelledNetwork → List Move → Option (List ℕ) → Option (List ℕ) → Stop
+    → Type 0
 StopOf form plan model moves before after stop.WriteFault = AppendsFront before after (told_of form plan model (until_full plan model moves))
 StopOf form plan model moves before after stop.NoMemory = AppendsMoves form plan model (until_full plan model moves) before after
 StopOf form plan model moves before after (stop.WorldFull octets) = PlaysUntilFull form plan model moves octets before after
 
 -- What playing moves comes to: all of them were played, or it stopped.
-abbrev pub PlayOf : {A : Type 0} → Telling → Plan → network.World → List Move → WorldState → Option (List ℕ) → Option (List ℕ) → List ℕ → Result A Stop → Type 0
+abbrev pub PlayOf : {A : Type 0} → Telling → Plan → network.LabelledNetwork → List Move → WorldState → Option (List ℕ)
+    → Option (List ℕ) → List ℕ → Result A Stop → Type 0
 PlayOf form plan model moves code before after block (Ok _) = UnderWay form plan model moves code before after block
 PlayOf form plan model moves code before after block (Err e) = StopOf form plan model moves before after e
 

@@ -83,7 +83,8 @@ form_of PcapShow = Shown
 form_of PcapLines = Remade
 
 -- What a call comes to whose words are a command, or are none; what one comes to that runs a node is said by itself.
-abbrev pub ServesAs : Result Command ℕ → (left_before left_after before after : Option (List ℕ)) → (same_source same_sink read_rose write_rose : Type 0) → Status → Type 0
+abbrev pub ServesAs : Result Command ℕ → (left_before left_after before after : Option (List ℕ))
+    → (same_source same_sink read_rose write_rose : Type 0) → Status → Type 0
 ServesAs (Err at) left_before left_after before after same_source same_sink read_rose write_rose status =
     Refuses at same_source same_sink status
 ServesAs (Ok (Whole command)) left_before left_after before after same_source same_sink read_rose write_rose status =
@@ -93,6 +94,7 @@ ServesAs (Ok (Streamed command)) left_before left_after before after same_source
 ServesAs (Ok (Run turns)) left_before left_after before after same_source same_sink read_rose write_rose status = Unit {0}
 
 -- what a call comes to that answers the words with this status
-abbrev pub Serves : (words : List (List ℕ)) → (left_before left_after before after : Option (List ℕ)) → (same_source same_sink read_rose write_rose : Type 0) → Status → Type 0
+abbrev pub Serves : (words : List (List ℕ)) → (left_before left_after before after : Option (List ℕ))
+    → (same_source same_sink read_rose write_rose : Type 0) → Status → Type 0
 Serves words left_before left_after before after same_source same_sink read_rose write_rose status =
     ServesAs (command_of words) left_before left_after before after same_source same_sink read_rose write_rose status

@@ -4,11 +4,11 @@ use Rattle.std.specs.Io.KnownBytes.{Appends}
 use Rattle.clnp_machine.specs.ClnpPlan.declared.journal.Telling.{Telling}
 use Rattle.clnp_world.specs.Scenario.Scenario.{Plan}
 use Rattle.clnp_world.specs.Scenario.declared.event.Move.{Move}
-use Rattle.clnp_world.specs.ClnpNetwork.World.{World, first_world}
+use Rattle.clnp_world.specs.ClnpNetwork.LabelledNetwork.{LabelledNetwork, first_world}
 use Rattle.clnp_world.specs.ClnpNetwork.Run.{told_of, moves_made}
 
 -- the lines of some of the moves, from the first on, and of no part of a move, were written
-pub record AppendsMoves (form : Telling) (plan : Plan) (model : World) (moves : List Move) (before after : Option (List ℕ)) : Type 0 where
+pub record AppendsMoves (form : Telling) (plan : Plan) (model : LabelledNetwork) (moves : List Move) (before after : Option (List ℕ)) : Type 0 where
   pub made : List Move
   pub later : List Move
   pub all : moves ≡ made ++ later

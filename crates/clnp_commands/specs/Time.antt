@@ -2,7 +2,7 @@
 use Rattle.std.specs.Prelude.{ℕ, ◌+◌, ◌<◌, ◌^◌, List, [], ◌∷◌}
 use Rattle.clnp_world.specs.Scenario.declared.event.Move.{Move}
 use Rattle.clnp_world.specs.Scenario.declared.event.Move.TheVariants.{One, SettleOne, LoseOne, TickOne, TickSystem}
-use Rattle.clnp_world.specs.ClnpNetwork.World as network
+use Rattle.clnp_world.specs.ClnpNetwork.LabelledNetwork as network
 use Rattle.clnp_world.specs.State.{WorldState}
 use Rattle.clnp_world.specs.Stands.{Stands}
 
@@ -20,6 +20,6 @@ ticks_in (move ∷ moves) = tick_of move + ticks_in moves
 
 -- the network stands for one whose clock has room for the ticks of moves that are to come
 pub record HasTime (code : WorldState) (moves : List Move) : Type 0 where
-  pub model : network.World
+  pub model : network.LabelledNetwork
   pub stands : Stands code model
   pub early : model.clock + ticks_in moves + 1 < 2 ^ 62

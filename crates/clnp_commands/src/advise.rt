@@ -9,7 +9,7 @@ use scenario_advice::{Advice, of_capture, of_scenario, of_scenario_of_version_1,
 
 /// What the author of an input is told that a command refuses at one of its lines: which word is at fault and what is wanted
 /// there, or what the line is about. Nothing with every other answer, and by the commands that tell nothing.
-pub fn advice_on(command: WholeCommand, text: &[u8], status: Status) -> Advice
+pub(crate) fn advice_on(command: WholeCommand, text: &[u8], status: Status) -> Advice
     ensures { Advised (Ok (Whole command)) status result }
 {
     let Status::BadInput { line, code } = status else {

@@ -3,7 +3,7 @@ ghost use Rattle.std.specs.Prelude.{◌≡◌, ◌≤◌, ◌++◌, List, Option
 ghost use Rattle.clnp_machine.specs.ClnpBase.Streams.{Rose};
 ghost use Rattle.clnp_machine.specs.ClnpBase.Text.{lines_of};
 ghost use Rattle.clnp_world.specs.Scenario.Scenario.{IsFit, moves_of};
-ghost use Rattle.clnp_world.specs.ClnpNetwork.World as network;
+ghost use Rattle.clnp_world.specs.ClnpNetwork.LabelledNetwork as network;
 ghost use Rattle.clnp_world.specs.ClnpNetwork.Run.{moves_of_plan, world_after, world_end};
 ghost use Rattle.clnp_world.specs.Stands.{Stands};
 ghost use Rattle.capture_commands.specs.CommandBase.ComesAs.{ComesAs, most_input};
@@ -86,7 +86,7 @@ fn play_events<K: Sink>(
 ) -> Result<(), Stop>
     requires { HasTime world.old (moves_of_plan scenario.now) }
     ensures later { K.faults sink.old ≤ K.faults sink.new }
-    ensures comes_to { (model : network.World) (past : List Move) (before : Option (List ℕ))
+    ensures comes_to { (model : network.LabelledNetwork) (past : List Move) (before : Option (List ℕ))
         → UnderWay telling scenario.now model past world.old before (K.written sink.old) block.old.items
         → PlayOf telling scenario.now model (past ++ moves_of_plan scenario.now) world.new before (K.written sink.new) block.new.items result }
     ensures failed { result ≡ Err Stop.WriteFault → Rose (K.faults sink.old) (K.faults sink.new) }
@@ -111,9 +111,9 @@ fn play_event<K: Sink>(
 ) -> Result<(), Stop>
     requires { HasTime world.old (moves_of place event.now) }
     ensures later { K.faults sink.old ≤ K.faults sink.new }
-    ensures stands { OnOk result ((model : network.World) → Stands world.old model
+    ensures stands { OnOk result ((model : network.LabelledNetwork) → Stands world.old model
         → Stands world.new (world_after scenario.now model (moves_of place event.now))) }
-    ensures comes_to { (model : network.World) (past : List Move) (before : Option (List ℕ))
+    ensures comes_to { (model : network.LabelledNetwork) (past : List Move) (before : Option (List ℕ))
         → UnderWay telling scenario.now model past world.old before (K.written sink.old) block.old.items
         → PlayOf telling scenario.now model (past ++ moves_of place event.now) world.new before (K.written sink.new) block.new.items result }
     ensures failed { result ≡ Err Stop.WriteFault → Rose (K.faults sink.old) (K.faults sink.new) }
@@ -135,9 +135,9 @@ fn play_times<K: Sink>(
 ) -> Result<(), Stop>
     requires { HasTime world.old (replicate count mv.now) }
     ensures later { K.faults sink.old ≤ K.faults sink.new }
-    ensures stands { OnOk result ((model : network.World) → Stands world.old model
+    ensures stands { OnOk result ((model : network.LabelledNetwork) → Stands world.old model
         → Stands world.new (world_after scenario.now model (replicate count mv.now))) }
-    ensures comes_to { (model : network.World) (past : List Move) (before : Option (List ℕ))
+    ensures comes_to { (model : network.LabelledNetwork) (past : List Move) (before : Option (List ℕ))
         → UnderWay telling scenario.now model past world.old before (K.written sink.old) block.old.items
         → PlayOf telling scenario.now model (past ++ replicate count mv.now) world.new before (K.written sink.new) block.new.items result }
     ensures failed { result ≡ Err Stop.WriteFault → Rose (K.faults sink.old) (K.faults sink.new) }
@@ -165,9 +165,9 @@ fn play_move<K: Sink>(
 ) -> Result<(), Stop>
     requires { HasTime world.old (mv.now ∷ []) }
     ensures later { K.faults sink.old ≤ K.faults sink.new }
-    ensures stands { OnOk result ((model : network.World) → Stands world.old model
+    ensures stands { OnOk result ((model : network.LabelledNetwork) → Stands world.old model
         → Stands world.new (world_after scenario.now model (mv.now ∷ []))) }
-    ensures comes_to { (model : network.World) (past : List Move) (before : Option (List ℕ))
+    ensures comes_to { (model : network.LabelledNetwork) (past : List Move) (before : Option (List ℕ))
         → UnderWay telling scenario.now model past world.old before (K.written sink.old) block.old.items
         → PlayOf telling scenario.now model (past ++ (mv.now ∷ [])) world.new before (K.written sink.new) block.new.items result }
     ensures failed { result ≡ Err Stop.WriteFault → Rose (K.faults sink.old) (K.faults sink.new) }
@@ -202,7 +202,7 @@ fn write_end<K: Sink>(
     sink: &mut K,
 ) -> Result<(), Stop>
     ensures later { K.faults sink.old ≤ K.faults sink.new }
-    ensures comes_to { (model : network.World) → Stands world.now model
+    ensures comes_to { (model : network.LabelledNetwork) → Stands world.now model
         → PieceOf (block.old.items ++ world_end model) (K.written sink.old) (K.written sink.new) result }
     ensures failed { result ≡ Err Stop.WriteFault → Rose (K.faults sink.old) (K.faults sink.new) }
 {

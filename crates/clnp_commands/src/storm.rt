@@ -2,7 +2,7 @@
 ghost use Rattle.std.specs.Prelude.{◌≡◌, ◌≤◌, ◌++◌, [], ◌∷◌, OnOk, replicate};
 ghost use Rattle.clnp_machine.specs.ClnpBase.Streams.{Rose};
 ghost use Rattle.clnp_world.specs.Scenario.Scenario.{moves_of};
-ghost use Rattle.clnp_world.specs.ClnpNetwork.World as network;
+ghost use Rattle.clnp_world.specs.ClnpNetwork.LabelledNetwork as network;
 ghost use Rattle.clnp_world.specs.ClnpNetwork.Run.{moves_of_plan};
 ghost use Rattle.clnp_world.specs.Stands.{Stands};
 ghost use Rattle.capture_commands.specs.CommandBase.ByLine.{EndOf};
@@ -113,7 +113,7 @@ fn count_events(
     counts: &mut Counts,
 ) -> Result<(), WorldRefusal>
     requires { HasTime world.old (moves_of_plan scenario.now) }
-    ensures { (model : network.World) → Stands world.old model
+    ensures { (model : network.LabelledNetwork) → Stands world.old model
         → CountOf scenario.now model (moves_of_plan scenario.now) world.new counts.old counts.new result }
 {
     for (place, event) in scenario.events().iter().enumerate() {
@@ -132,7 +132,7 @@ fn count_event(
     counts: &mut Counts,
 ) -> Result<(), WorldRefusal>
     requires { HasTime world.old (moves_of place event.now) }
-    ensures { (model : network.World) → Stands world.old model
+    ensures { (model : network.LabelledNetwork) → Stands world.old model
         → CountOf scenario.now model (moves_of place event.now) world.new counts.old counts.new result }
 {
     let (mv, times) = event.moves(place);
@@ -149,7 +149,7 @@ fn count_times(
     counts: &mut Counts,
 ) -> Result<(), WorldRefusal>
     requires { HasTime world.old (replicate times mv.now) }
-    ensures { (model : network.World) → Stands world.old model
+    ensures { (model : network.LabelledNetwork) → Stands world.old model
         → CountOf scenario.now model (replicate times mv.now) world.new counts.old counts.new result }
 {
     for _made in 0..times {
@@ -172,7 +172,7 @@ fn count_move(
     counts: &mut Counts,
 ) -> Result<(), WorldRefusal>
     requires { HasTime world.old (mv.now ∷ []) }
-    ensures { (model : network.World) → Stands world.old model
+    ensures { (model : network.LabelledNetwork) → Stands world.old model
         → CountOf scenario.now model (mv.now ∷ []) world.new counts.old counts.new result }
 {
     world.count_step(alloc, scenario, mv, counts)

@@ -97,7 +97,7 @@ pub fn clnp_main<S: Source, K: Sink, B: Ports, C: Clock>(
     match Command::of(words) {
         Ok(Command::Whole(command)) => serve(alloc, command, source, sink, advice),
         Ok(Command::Streamed(command)) => serve_streamed(alloc, command, source, sink),
-        Ok(Command::Run { turns }) => run_system(alloc, turns, source, board, clock, sink),
+        Ok(Command::Run { turns }) => run_system(alloc, turns, source, board, clock, sink, advice),
         Err(at) => Status::BadWords { at },
     }
 }

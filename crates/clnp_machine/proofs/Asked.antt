@@ -7,7 +7,7 @@ use Rattle.clnp_machine.specs.Local.{discard, made_in, makes, report_unit, repor
 use Rattle.clnp_machine.specs.Content.{Content, Labelled, Esis, Unlabelled, frame_of}
 use Rattle.clnp_machine.specs.System.{SystemState, Input, AsksToSend, AsksForEcho, FrameComes, MomentComes, IsRestarted, IsCongested, IsChanged}
 use Rattle.clnp_machine.specs.Step.{step}
-use Rattle.clnp_machine.specs.Steps.{IsAtMostReportOf, IsMadeFor}
+use Rattle.clnp_machine.specs.EveryStep.{IsAtMostReportOf, IsMadeFor}
 use Rattle.clnp_machine.proofs.Deeds.{AllSuch, leads_step}
 
 all_asked : (s : SystemState) (input : Input) → AllSuch (IsMadeFor input) s input

@@ -4,7 +4,7 @@ use Rattle.clnp_machine.specs.Attachment.{Attachment, IsAttached}
 use Rattle.clnp_machine.specs.Change.{Change, ChangesFairly, changed}
 use Rattle.clnp_machine.specs.System.{SystemState, Input, AsksToSend, AsksForEcho, FrameComes, MomentComes, IsRestarted, IsCongested, IsChanged}
 use Rattle.clnp_machine.specs.Step.{step}
-use Rattle.clnp_machine.specs.Steps.{IsFairChange, attached_after}
+use Rattle.clnp_machine.specs.EveryStep.{IsFairChange, attached_after}
 use Rattle.clnp_machine.proofs.Deeds.{step_attached}
 use Rattle.clnp_machine.proofs.Keeping.{same_number}
 

@@ -17,7 +17,7 @@ use Rattle.reassembly.specs.Arrival.{Arrival, same_key}
 use Rattle.reassembly.specs.Buffer as buffer
 use Rattle.reassembly.specs.Buffer.{Answer, Buffer, held, size_of}
 use Rattle.esis_pdus.specs.Rules.{why_refused}
-use Rattle.clnp_plan.specs.EsisTables.declared.fact.Place.{Place}
+use Rattle.clnp_plan.specs.EsisTables.declared.fact.Neighbour.{Neighbour}
 use Rattle.clnp_plan.proofs.ClnpBase.SameOctets.{same-itself}
 use Rattle.clnp_plan.specs.Configuration.{SystemConfiguration}
 use Rattle.clnp_plan.specs.declared.ask.Ask.{Ask}
@@ -25,14 +25,13 @@ use Rattle.clnp_plan.specs.declared.note.Note.{Note}
 use Rattle.clnp_plan.specs.declared.note.Note.TheVariants as note
 use Rattle.clnp_machine.specs.Change.{Change}
 use Rattle.clnp_machine.specs.Identifiers.{Identifiers}
-use Rattle.clnp_machine.specs.Unit as unit
-use Rattle.clnp_machine.specs.Unit.{DeclaredAt, Packet, value_of, wire}
+use Rattle.clnp_machine.specs.Unit.{DataUnit, DeclaredAt, Packet, value_of, wire}
 use Rattle.clnp_machine.specs.Content.{Content, Labelled, Esis, Unlabelled, frame_of}
 use Rattle.clnp_machine.specs.System.{SystemState, Input, AsksToSend, AsksForEcho, FrameComes, MomentComes, IsRestarted, IsCongested, IsChanged, Effect, idles, next_number, then_does, table_limits}
 use Rattle.clnp_machine.specs.Local.{Action, Sends, Tells, Deed, and_then, at_moment, data_in, discard, discard_first, echo_ask, expire, give_up_due, gives_up, hand_up, has_address, is_all, is_answer, made_in, make, makes, offer, offered, receive, refusal, report_unit, reports, reports_from, restarted, rests, takes_in, takes_reply, tells, tick, unit_of, unless_refused, with_use}
 use Rattle.clnp_machine.specs.Esis.{esis_comes, forgets, says_hello}
 use Rattle.clnp_machine.specs.Step.{packet_comes, discard_refused, octets_come, effect_of, responds, content_comes, moment_comes, restart, congest, as_changed, step, unheard_note}
-use Rattle.clnp_machine.specs.Steps.{AreNumbered, IsDeed, IsEffect, StaysItself, HearsNothing, LeavesTheRest, OnlyHellos, WasPendingOrMade, attached_after, moment_after, segments_in, IsFresh, IsWithinBudget}
+use Rattle.clnp_machine.specs.EveryStep.{AreNumbered, IsDeed, IsEffect, StaysItself, HearsNothing, LeavesTheRest, OnlyHellos, WasPendingOrMade, attached_after, moment_after, segments_in, IsFresh, IsWithinBudget}
 use Rattle.clnp_machine.specs.Told.{IsOfNoRule}
 use Rattle.clnp_machine.proofs.Gained.{KeepsOnly, each_kept, keeps_give_up}
 use Rattle.clnp_machine.proofs.Hellos.{only_comes, only_forgets, only_responds, only_says_hello, only_then}
@@ -79,7 +78,7 @@ hears-on s t u h k = record {
 }
 
 -- what a deed leaves, and the units that it makes, where W says of each what it is
-pub record Does (W : unit.Unit → Type 0) (s : SystemState) (deed : Deed) : Type 0 where
+pub record Does (W : DataUnit → Type 0) (s : SystemState) (deed : Deed) : Type 0 where
   pub goes : Goes s deed.after
   pub heard : HearsNothing s deed.after
   pub makes : Makes W s deed.after (made_in deed.actions)
@@ -98,10 +97,10 @@ with_buffers : (s : SystemState) (buffers : List (Buffer Packet)) → (IsWithinB
 with_buffers s buffers within = record { itself = record { place = refl; configuration = refl; hold = refl; reuse = refl }; moment = refl; attached = refl; budget = within }
 
 -- the reply that a system makes to a request
-abbrev pub reply_unit : SystemState → (source destination octets : List ℕ) → unit.Unit
+abbrev pub reply_unit : SystemState → (source destination octets : List ℕ) → DataUnit
 reply_unit s source destination octets = unit_of s Erp destination source octets (echo_ask s destination source (length octets) false)
 
-module _ (W : unit.Unit → Type 0) where
+module _ (W : DataUnit → Type 0) where
   does_rest : (s : SystemState) → Does W s (rests s)
   does_rest s = record { goes = goes-nowhere s; heard = hears-nothing s; makes = makes_none W s s refl refl }
 
@@ -139,14 +138,14 @@ module _ (W : unit.Unit → Type 0) where
 
   -- Units that are made.
 
-  does_make_unit : (s : SystemState) (u : unit.Unit) → u.number ≡ next_number s → W u → Does W s (makes s u)
+  does_make_unit : (s : SystemState) (u : DataUnit) → u.number ≡ next_number s → W u → Does W s (makes s u)
   does_make_unit s u number is = record {
     goes = record { itself = record { place = refl; configuration = refl; hold = refl; reuse = reuse_kept s u.identifier }; moment = refl; attached = refl; budget = λ h. h };
     heard = record { facts = refl; hello = refl; next_hello = refl; congested = refl; attached = refl };
     makes = makes_one W s u number is;
   }
 
-  does_unless_refused : (s : SystemState) (u : unit.Unit) (refused : Option Note) → u.number ≡ next_number s → (refused ≡ None → W u)
+  does_unless_refused : (s : SystemState) (u : DataUnit) (refused : Option Note) → u.number ≡ next_number s → (refused ≡ None → W u)
       → Does W s (unless_refused refused s u)
   does_unless_refused s u None number is = does_make_unit s u number (is refl)
   does_unless_refused s u (Some told) number is = does_tell s told
@@ -183,7 +182,7 @@ module _ (W : unit.Unit → Type 0) where
         does_tell_and t (note.Discard reason place) (λ v. reports v (frame_of frame) reason place)
         (does_report_from t at (frame_of frame) reason place such (slice_get t.configuration.addresses 0) refl)
 
-    does_take_reply : (t : SystemState) (source destination octets : List ℕ) (found : Option unit.Unit) → Does W t (takes_reply t source destination octets found)
+    does_take_reply : (t : SystemState) (source destination octets : List ℕ) (found : Option DataUnit) → Does W t (takes_reply t source destination octets found)
     does_take_reply t source destination octets None = does_tell t _
     does_take_reply t source destination octets (Some request) = record {
       goes = record { itself = record { place = refl; configuration = refl; hold = refl; reuse = refl }; moment = refl; attached = refl; budget = λ h. h };
@@ -316,12 +315,12 @@ module _ (W : unit.Unit → Type 0) where
 -- What that says of a step.
 
 -- what an effect leaves, and the units that are made
-pub record Leads (W : unit.Unit → Type 0) (s : SystemState) (effect : Effect) : Type 0 where
+pub record Leads (W : DataUnit → Type 0) (s : SystemState) (effect : Effect) : Type 0 where
   pub goes : Goes s effect.after
   pub makes : Makes W s effect.after effect.units
 
 -- what comes of a packet
-pub record Takes (W : unit.Unit → Type 0) (s : SystemState) (effect : Effect) : Type 0 where
+pub record Takes (W : DataUnit → Type 0) (s : SystemState) (effect : Effect) : Type 0 where
   pub leads : Leads W s effect
   pub heard : HearsNothing s effect.after
 
@@ -336,7 +335,7 @@ begun s input = record s { moment = moment_after s input; attached = attached_af
 abbrev pub carried_in : List (Buffer Packet) → List Packet
 carried_in buffers = map (λ (arrival : Arrival Packet). arrival.carried) (segments_in buffers)
 
-module _ (W : unit.Unit → Type 0) where
+module _ (W : DataUnit → Type 0) where
   -- the effect of a deed
   by_deed : (s : SystemState) (deed : Deed) → Does W s deed → Leads W s (effect_of deed)
   by_deed s deed h = record { goes = h.goes; makes = h.makes }
@@ -344,7 +343,7 @@ module _ (W : unit.Unit → Type 0) where
   taken : (s : SystemState) (deed : Deed) → Does W s deed → Takes W s (effect_of deed)
   taken s deed h = record { leads = by_deed s deed h; heard = h.heard }
 
-  pub takes_packet : (s : SystemState) (came : Place) (p : Packet) (following : List ℕ) → CausesSuch W s p following
+  pub takes_packet : (s : SystemState) (came : Neighbour) (p : Packet) (following : List ℕ) → CausesSuch W s p following
       → Takes W s (packet_comes s came p following)
   takes_packet s came p following such =
       packet_does (Takes W s) s came p following
@@ -394,12 +393,12 @@ module _ (W : unit.Unit → Type 0) where
   leads_content : (s : SystemState) (port : ℕ) (sender : List ℕ) (to_group : Bool) (content : Content)
       → AllSuch s (FrameComes port sender to_group content) → Leads W s (content_comes s (record { port = port; snpa = sender }) to_group content)
   leads_content s port sender to_group (Labelled p following) such =
-      let place : Place = record { port = port; snpa = sender } in
-      let come = packet_comes s place p following in
-      leads-on s come (λ t. responds t place to_group p) (takes_packet s place p following such).leads
-      (by_hellos come.after (responds come.after place to_group p) (only_responds come.after place to_group p))
+      let neighbour : Neighbour = record { port = port; snpa = sender } in
+      let come = packet_comes s neighbour p following in
+      leads-on s come (λ t. responds t neighbour to_group p) (takes_packet s neighbour p following such).leads
+      (by_hellos come.after (responds come.after neighbour to_group p) (only_responds come.after neighbour to_group p))
   leads_content s port sender to_group (Esis value following) such =
-      let place : Place = record { port = port; snpa = sender } in by_hellos s (esis_comes s place value) (only_comes s place value)
+      let neighbour : Neighbour = record { port = port; snpa = sender } in by_hellos s (esis_comes s neighbour value) (only_comes s neighbour value)
   leads_content s port sender to_group (Unlabelled octets) such =
       by_deed s (octets_come s octets) (does_with_octets W s s (goes-nowhere s) octets such)
 
@@ -512,7 +511,7 @@ step_moment s input = (leads_fresh s input).goes.moment
 pub step_attached : (s : SystemState) (input : Input) → (step s input).after.attached ≡ attached_after s input
 step_attached s input = (leads_fresh s input).goes.attached
 
-fresh_before : (s : SystemState) (input : Input) (u : unit.Unit) → IsFresh (begun s input) (moment_after s input) u → IsFresh s (moment_after s input) u
+fresh_before : (s : SystemState) (input : Input) (u : DataUnit) → IsFresh (begun s input) (moment_after s input) u → IsFresh s (moment_after s input) u
 fresh_before s input u h = record { maker = h.maker; made = h.made; source = h.source; first_position = h.first_position; total = h.total }
 
 pub step_fresh : (s : SystemState) (input : Input) → AllByRecursion (IsFresh s (moment_after s input)) (step s input).units
@@ -551,7 +550,7 @@ discard_is s content reason place =
     is_deed s (discard s content reason place)
     (does_discard (IsFresh s s.moment) s s (goes-nowhere s) content reason place (report_fresh s (frame_of content) reason place))
 
-pub packet_is : (s : SystemState) (came : Place) (p : Packet) (following : List ℕ) → IsEffect s (packet_comes s came p following)
+pub packet_is : (s : SystemState) (came : Neighbour) (p : Packet) (following : List ℕ) → IsEffect s (packet_comes s came p following)
 packet_is s came p following =
     let took = takes_packet (IsFresh s s.moment) s came p following (causes_fresh s p following) in
     record { itself = took.leads.goes.itself; moment = took.leads.goes.moment; heard = took.heard; fresh = took.leads.makes.such }
@@ -568,7 +567,7 @@ pub given_up_after : (s : SystemState) (ended : Buffer Packet)
     → (gives_up s ended).after ≡ record s { buffers = buffer.without ended.key s.buffers; count = (gives_up s ended).after.count }
 given_up_after s ended = discarded (buffer.first_carried ended)
   where
-    one_of : (t : SystemState) (test : Bool) (u : unit.Unit) → u.kind ≡ Er → u.identifier ≡ None
+    one_of : (t : SystemState) (test : Bool) (u : DataUnit) → u.kind ≡ Er → u.identifier ≡ None
         → (if test then makes t u else rests t).after ≡ record t { count = (if test then makes t u else rests t).after.count }
     one_of t true u kind whole = rw (kind, whole) refl
     one_of t false u kind whole = refl

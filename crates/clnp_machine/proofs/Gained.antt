@@ -12,17 +12,16 @@ use Rattle.clnp_plan.specs.PduHeader.declared.kind.Kind.TheVariants.{Dt, Er, Erq
 use Rattle.reassembly.specs.Arrival.{Arrival, same_key}
 use Rattle.reassembly.specs.Buffer as buffer
 use Rattle.reassembly.specs.Buffer.{Answer, Buffer}
-use Rattle.clnp_plan.specs.EsisTables.declared.fact.Place.{Place}
+use Rattle.clnp_plan.specs.EsisTables.declared.fact.Neighbour.{Neighbour}
 use Rattle.clnp_plan.specs.declared.ask.Ask.{Ask}
 use Rattle.clnp_plan.specs.declared.note.Note.{Note}
-use Rattle.clnp_machine.specs.Unit as unit
-use Rattle.clnp_machine.specs.Unit.{Packet, value_of}
+use Rattle.clnp_machine.specs.Unit.{DataUnit, Packet, value_of}
 use Rattle.clnp_machine.specs.Content.{Content, Labelled, Esis, Unlabelled, frame_of}
 use Rattle.clnp_machine.specs.System.{SystemState, Input, AsksToSend, AsksForEcho, FrameComes, MomentComes, IsRestarted, IsCongested, IsChanged, Effect, then_does, table_limits}
 use Rattle.clnp_machine.specs.Esis.{esis_comes, forgets, says_hello}
 use Rattle.clnp_machine.specs.Local.{Deed, data_in, discard, echo_ask, hand_up, is_all, is_answer, make, makes, offered, report_unit, reports_from, rests, takes_in, takes_reply, offer, refusal, unit_of, unless_refused, discard_first, gives_up, give_up_due, expire, at_moment, tick}
 use Rattle.clnp_machine.specs.Step.{packet_comes, discard_refused, octets_come, responds, content_comes, step}
-use Rattle.clnp_machine.specs.Steps.{segments_in, CarriesSegment, ComesWith, OnlyHellos, WasKeptOrComes}
+use Rattle.clnp_machine.specs.EveryStep.{segments_in, CarriesSegment, ComesWith, OnlyHellos, WasKeptOrComes}
 use Rattle.clnp_machine.proofs.Hellos.{only_comes, only_forgets, only_responds, only_says_hello, only_then}
 use Rattle.clnp_machine.proofs.Kept.{all_after, all_contained}
 use Rattle.clnp_machine.proofs.Passing.{packet_does}
@@ -55,7 +54,7 @@ module _ (P : Arrival Packet → Type 0) where
   keeps_discard : (s : SystemState) (frame : Content) (reason place : ℕ) → KeepsOnly s.buffers → KeepsOnly (discard s frame reason place).after.buffers
   keeps_discard s frame reason place h = keeps_reports_from s (slice_get s.configuration.addresses 0) (frame_of frame) reason place h
 
-  keeps_unless_refused : (s : SystemState) (u : unit.Unit) (refused : Option Note) → KeepsOnly s.buffers → KeepsOnly (unless_refused refused s u).after.buffers
+  keeps_unless_refused : (s : SystemState) (u : DataUnit) (refused : Option Note) → KeepsOnly s.buffers → KeepsOnly (unless_refused refused s u).after.buffers
   keeps_unless_refused s u None h = h
   keeps_unless_refused s u (Some told) h = h
 
@@ -64,7 +63,7 @@ module _ (P : Arrival Packet → Type 0) where
   keeps_make s kind from to octets ask h =
       keeps_unless_refused s (unit_of s kind from to octets ask) (refusal s (unit_of s kind from to octets ask)) h
 
-  keeps_takes_reply : (s : SystemState) (source destination octets : List ℕ) (found : Option unit.Unit) → KeepsOnly s.buffers
+  keeps_takes_reply : (s : SystemState) (source destination octets : List ℕ) (found : Option DataUnit) → KeepsOnly s.buffers
       → KeepsOnly (takes_reply s source destination octets found).after.buffers
   keeps_takes_reply s source destination octets None h = h
   keeps_takes_reply s source destination octets (Some request) h = h
@@ -98,7 +97,7 @@ module _ (P : Arrival Packet → Type 0) where
       (all_after (table_limits s) s.moment arrival (λ (b : Buffer Packet). AllByRecursion P b.kept)
       (record { new = (comes, tt); more = λ b all same. AllByRecursion-push P b.kept arrival all comes }) s.buffers h)
 
-  keeps_with_packet : (s : SystemState) (came : Place) (p : Packet) (following : List ℕ) → KeepsOnly s.buffers → P (offered p following)
+  keeps_with_packet : (s : SystemState) (came : Neighbour) (p : Packet) (following : List ℕ) → KeepsOnly s.buffers → P (offered p following)
       → KeepsOnly (packet_comes s came p following).after.buffers
   keeps_with_packet s came p following h comes =
       packet_does (λ effect. KeepsOnly effect.after.buffers) s came p following (λ reason of_none. keeps_discard s (Labelled p following) reason 0 h)
@@ -120,14 +119,14 @@ module _ (P : Arrival Packet → Type 0) where
   keeps_by_hellos : (s : SystemState) (effect : Effect) → OnlyHellos s effect → KeepsOnly s.buffers → KeepsOnly effect.after.buffers
   keeps_by_hellos s effect only h = subst KeepsOnly (sym only.rest.buffers) h
 
-  keeps_with_content : (s : SystemState) (place : Place) (to_group : Bool) (content : Content) → KeepsOnly s.buffers
-      → ((arrival : Arrival Packet) → CarriesSegment content arrival → P arrival) → KeepsOnly (content_comes s place to_group content).after.buffers
-  keeps_with_content s place to_group (Labelled p following) h comes =
-      let come = (packet_comes s place p following).after in
-      keeps_by_hellos come (responds come place to_group p) (only_responds come place to_group p)
-      (keeps_with_packet s place p following h (comes (offered p following) refl))
-  keeps_with_content s place to_group (Esis value following) h comes = keeps_by_hellos s (esis_comes s place value) (only_comes s place value) h
-  keeps_with_content s place to_group (Unlabelled octets) h comes = keeps_with_octets s octets h
+  keeps_with_content : (s : SystemState) (neighbour : Neighbour) (to_group : Bool) (content : Content) → KeepsOnly s.buffers
+      → ((arrival : Arrival Packet) → CarriesSegment content arrival → P arrival) → KeepsOnly (content_comes s neighbour to_group content).after.buffers
+  keeps_with_content s neighbour to_group (Labelled p following) h comes =
+      let come = (packet_comes s neighbour p following).after in
+      keeps_by_hellos come (responds come neighbour to_group p) (only_responds come neighbour to_group p)
+      (keeps_with_packet s neighbour p following h (comes (offered p following) refl))
+  keeps_with_content s neighbour to_group (Esis value following) h comes = keeps_by_hellos s (esis_comes s neighbour value) (only_comes s neighbour value) h
+  keeps_with_content s neighbour to_group (Unlabelled octets) h comes = keeps_with_octets s octets h
 
   keeps_discard_first : (s : SystemState) (first : Option Packet) → KeepsOnly s.buffers → KeepsOnly (discard_first s first).after.buffers
   keeps_discard_first s None h = h

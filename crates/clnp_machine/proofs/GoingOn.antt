@@ -14,9 +14,9 @@ use Rattle.clnp_plan.specs.ClnpOptions.Edits.{advanced, edited, is_complete, poi
 use Rattle.clnp_plan.specs.ClnpOptions.Grammar.{AreFormed}
 use Rattle.clnp_plan.specs.ClnpOptions.Parameter.{Parameter, recording, source_route, spelled, spelling}
 use Rattle.clnp_plan.specs.PduHeader.Value.{SegmentationPart}
-use Rattle.clnp_plan.specs.EsisTables.declared.fact.Place.{Place}
+use Rattle.clnp_plan.specs.EsisTables.declared.fact.Neighbour.{Neighbour}
 use Rattle.clnp_plan.specs.EsisTables.declared.fact.TableKind.TheVariants.{Es}
-use Rattle.clnp_plan.specs.EsisTables.NextHop.{current_place}
+use Rattle.clnp_plan.specs.EsisTables.NextHop.{current_neighbour}
 use Rattle.clnp_machine.specs.Unit.{Packet, IsCarriable, segmentation_of, value_of as pdu_of}
 use Rattle.clnp_machine.specs.Content.{Labelled}
 use Rattle.clnp_machine.specs.System.{SystemState, Output, Transmits, SendsEsis, Effect}
@@ -25,7 +25,7 @@ use Rattle.clnp_machine.specs.Local.{discard}
 use Rattle.clnp_machine.specs.Step.{Way, begins_unit, discards, ends_at, hop_by, is_at, is_named, is_redirected, most_titles, noting_congestion, options_behind, passes_by, passing_own, redirects, towards, transmissions, way_of}
 use Rattle.clnp_plan.specs.declared.config.Role.TheVariants.{Router}
 use Rattle.clnp_machine.specs.EditLaws.{RouteLaws}
-use Rattle.clnp_machine.specs.Steps.{sends_esis}
+use Rattle.clnp_machine.specs.EveryStep.{sends_esis}
 use Rattle.clnp_machine.specs.Ways.{BeginsWithDiscard, CallsForRedirect, GoesItsWay, SendsItsWay, aim_of}
 use Rattle.clnp_machine.proofs.Answering.{NonePasses, deeds_silent, none_before, none_left, pieces_silent}
 use Rattle.clnp_machine.proofs.Headers.{header_length-is}
@@ -115,8 +115,8 @@ module _ (laws : RouteLaws) (s : SystemState) where
 
 -- The way.
 
-module _ (s : SystemState) (came : Place) (p : Packet) (following : List ℕ) where
-  its_way : (way : Way) → IsItsWay s p way → GoesItsWay s p way.place.port (System way.place.snpa)
+module _ (s : SystemState) (came : Neighbour) (p : Packet) (following : List ℕ) where
+  its_way : (way : Way) → IsItsWay s p way → GoesItsWay s p way.neighbour.port (System way.neighbour.snpa)
   its_way way is = record {
     way = way;
     known = is.known;
@@ -137,7 +137,7 @@ module _ (s : SystemState) (came : Place) (p : Packet) (following : List ℕ) wh
       (λ way port pieces there alive gives known.
       let options = options_behind s p.options in
       inl (AllByRecursion-append (SendsItsWay s p) (transmissions (hop_by way) (Some pieces)) (redirects s came p options way)
-      (AllByRecursion-map_any (SendsItsWay s p) (λ piece. Transmits way.place.port (System way.place.snpa) piece) pieces (λ piece. its_way way known))
+      (AllByRecursion-map_any (SendsItsWay s p) (λ piece. Transmits way.neighbour.port (System way.neighbour.snpa) piece) pieces (λ piece. its_way way known))
       (redirects_are (SendsItsWay s p) s came p options way (λ none. tt))))
 
 -- Redirects.
@@ -166,34 +166,34 @@ begins_its_unit None offset total h = refl
 begins_its_unit (Some identifier) offset total (inl none) = absurd (cc)
 begins_its_unit (Some identifier) offset total (inr first) = equal_is offset 0 first
 
-same_place : (a b : Place) → a.port ≡ b.port → a.snpa ≡ b.snpa → a ≡ b
+same_place : (a b : Neighbour) → a.port ≡ b.port → a.snpa ≡ b.snpa → a ≡ b
 same_place a b port snpa = λ i. record { port = port i; snpa = snpa i }
 
-near_it : (came : Place) (found : Option Place) → is_at came found ≡ true → found ≡ Some came
+near_it : (came : Neighbour) (found : Option Neighbour) → is_at came found ≡ true → found ≡ Some came
 near_it came None e = absurd (cc)
 near_it came (Some known) e =
     let parts = and_parts (known.port == came.port) (bytes_eq known.snpa came.snpa) e in
     ap Some (same_place known came (is_equal known.port came.port parts.0) (same_from known.snpa came.snpa parts.1))
 
-at_itself : (came : Place) → is_at came (Some came) ≡ true
+at_itself : (came : Neighbour) → is_at came (Some came) ≡ true
 at_itself came = and_from (came.port == came.port) (bytes_eq came.snpa came.snpa) (equal_is came.port came.port refl) (same-itself came.snpa)
 
-module _ (s : SystemState) (came : Place) (p : Packet) where
+module _ (s : SystemState) (came : Neighbour) (p : Packet) where
   abbrev options : List Parameter
   options = options_behind s p.options
 
-  abbrev near : Option Place
-  near = current_place s.moment Es p.unit.source s.facts
+  abbrev near : Option Neighbour
+  near = current_neighbour s.moment Es p.unit.source s.facts
 
   abbrev better : Way → Output
-  better way = SendsEsis came.port (System came.snpa) (redirect s p.unit.destination way.place.snpa way.title)
+  better way = SendsEsis came.port (System came.snpa) (redirect s p.unit.destination way.neighbour.snpa way.title)
 
   -- without a title in its route its aim is its destination
   aims : (way : Way) → IsItsWay s p way → target_of options ≡ None → way_of s p.unit.destination ≡ Some way
   aims way is unled = ap (λ (title : Option (List ℕ)). way_of s (towards p.unit.destination title)) (sym unled) ∙ is.known
 
   pieces_begin : (way : Way) (pieces : List Packet) (more : List Output) → ¬ (BeginsWithDiscard more)
-      → ¬ (BeginsWithDiscard (map (λ piece. Transmits way.place.port (System way.place.snpa) piece) pieces ++ more))
+      → ¬ (BeginsWithDiscard (map (λ piece. Transmits way.neighbour.port (System way.neighbour.snpa) piece) pieces ++ more))
   pieces_begin way [] more h = h
   pieces_begin way (piece ∷ pieces) more h = λ k. k
 
@@ -205,8 +205,8 @@ module _ (s : SystemState) (came : Place) (p : Packet) where
       → CallsForRedirect s came p (going s came p options way pieces)
   calls_for way pieces is e =
       let first = and_parts (not (s.configuration.settings.rhold == 0))
-      ((way.place.port == came.port) && (is_none (target_of options) && (begins_unit (segmentation_of p) && is_at came near))) e in
-      let second = and_parts (way.place.port == came.port) (is_none (target_of options) && (begins_unit (segmentation_of p) && is_at came near)) first.1 in
+      ((way.neighbour.port == came.port) && (is_none (target_of options) && (begins_unit (segmentation_of p) && is_at came near))) e in
+      let second = and_parts (way.neighbour.port == came.port) (is_none (target_of options) && (begins_unit (segmentation_of p) && is_at came near)) first.1 in
       let third = and_parts (is_none (target_of options)) (begins_unit (segmentation_of p) && is_at came near) second.1 in
       let fourth = and_parts (begins_unit (segmentation_of p)) (is_at came near) third.1 in
       let unled : target_of options ≡ None = none_is (target_of options) third.0 in
@@ -215,7 +215,7 @@ module _ (s : SystemState) (came : Place) (p : Packet) where
         unled = unled;
         way = way;
         known = aims way is unled;
-        back = is_equal way.place.port came.port second.0;
+        back = is_equal way.neighbour.port came.port second.0;
         begins = unit_begins p.unit.identifier p.offset p.unit.total fourth.0;
         near = near_it came near fourth.1;
         held = eqb-false s.configuration.settings.rhold 0 (not-true (s.configuration.settings.rhold == 0) first.0);
@@ -228,12 +228,12 @@ module _ (s : SystemState) (came : Place) (p : Packet) where
   called_for : (way : Way) (outputs : List Output) → IsItsWay s p way → CallsForRedirect s came p outputs → is_redirected s came p options way ≡ true
   called_for way outputs is calls =
       let same : calls.way ≡ way = same_Some calls.way way (sym calls.known ∙ aims way is calls.unled) in
-      let back : way.place.port ≡ came.port = subst (λ (w : Way). w.place.port ≡ came.port) same calls.back in
+      let back : way.neighbour.port ≡ came.port = subst (λ (w : Way). w.neighbour.port ≡ came.port) same calls.back in
       and_from (not (s.configuration.settings.rhold == 0))
-      ((way.place.port == came.port) && (is_none (target_of options) && (begins_unit (segmentation_of p) && is_at came near)))
+      ((way.neighbour.port == came.port) && (is_none (target_of options) && (begins_unit (segmentation_of p) && is_at came near)))
       (not_from_false (s.configuration.settings.rhold == 0) (ne_eqb s.configuration.settings.rhold 0 calls.held))
-      (and_from (way.place.port == came.port) (is_none (target_of options) && (begins_unit (segmentation_of p) && is_at came near))
-      (equal_is way.place.port came.port back)
+      (and_from (way.neighbour.port == came.port) (is_none (target_of options) && (begins_unit (segmentation_of p) && is_at came near))
+      (equal_is way.neighbour.port came.port back)
       (and_from (is_none (target_of options)) (begins_unit (segmentation_of p) && is_at came near) (ap is_none calls.unled)
       (and_from (begins_unit (segmentation_of p)) (is_at came near) (begins_its_unit p.unit.identifier p.offset p.unit.total calls.begins)
       (ap (is_at came) calls.near ∙ at_itself came))))

@@ -7,7 +7,7 @@ use Rattle.esis_pdus.specs.declared.pdu.EsisBody.{EsisBody}
 use Rattle.esis_pdus.specs.declared.pdu.EsisBody.TheVariants as body
 use Rattle.esis_pdus.specs.declared.pdu.EsisBody.TheVariants.{Esh, Ish}
 use Rattle.esis_pdus.specs.Value.{EsisValue, suggested}
-use Rattle.clnp_plan.specs.EsisTables.declared.fact.Place.{Place}
+use Rattle.clnp_plan.specs.EsisTables.declared.fact.Neighbour.{Neighbour}
 use Rattle.clnp_plan.specs.EsisTables.declared.fact.TableKind.{TableKind}
 use Rattle.clnp_plan.specs.EsisTables.declared.fact.TableKind.TheVariants.{Es, Is, Rd}
 use Rattle.clnp_plan.specs.EsisTables.Gone.{gone}
@@ -20,7 +20,7 @@ use Rattle.clnp_machine.specs.Unit.{Packet}
 use Rattle.clnp_machine.specs.System.{SystemState, Output, SendsEsis, Effect, idles, gives, then_does}
 use Rattle.clnp_machine.specs.Esis.{tells_of_itself, is_silent, own_hello, hearers, hello_everywhere, says_hello, hears, hears_each, tells_new, answers_new, follows, redirect_heard, end_system_heard, intermediate_system_heard, esis_heard, esis_comes, gone_note, forgets, first_of, hello_of, holding_time, wish}
 use Rattle.clnp_machine.specs.Step.{is_asked_for, responds}
-use Rattle.clnp_machine.specs.Steps.{IsOfHellos, LeavesTheRest, OnlyHellos}
+use Rattle.clnp_machine.specs.EveryStep.{IsOfHellos, LeavesTheRest, OnlyHellos}
 use Rattle.clnp_plan.proofs.ClnpBase.Choices.{one_of}
 
 -- nothing is left but the rest
@@ -75,23 +75,23 @@ only_says_hello s =
 
 -- what is heard
 
-pub only_hears : (s : SystemState) (table : TableKind) (key : List ℕ) (place : Place) (holding : ℕ) → OnlyHellos s (hears s table key place holding)
-only_hears s table key place holding = record {
+pub only_hears : (s : SystemState) (table : TableKind) (key : List ℕ) (neighbour : Neighbour) (holding : ℕ) → OnlyHellos s (hears s table key neighbour holding)
+only_hears s table key neighbour holding = record {
   rest = record { place = refl; configuration = refl; hold = refl; moment = refl; count = refl; identifiers = refl; buffers = refl; pending = refl; congested = refl; attached = refl };
   outputs = (tt, tt);
   units = refl;
 }
 
-pub only_hears_each : (s : SystemState) (addresses : List (List ℕ)) (place : Place) (holding : ℕ) → OnlyHellos s (hears_each s addresses place holding)
-only_hears_each s [] place holding = only_idles s
-only_hears_each s (address ∷ others) place holding =
-    only_then s (hears s Es address place holding) (λ t. hears_each t others place holding) (only_hears s Es address place holding)
-    (only_hears_each (hears s Es address place holding).after others place holding)
+pub only_hears_each : (s : SystemState) (addresses : List (List ℕ)) (neighbour : Neighbour) (holding : ℕ) → OnlyHellos s (hears_each s addresses neighbour holding)
+only_hears_each s [] neighbour holding = only_idles s
+only_hears_each s (address ∷ others) neighbour holding =
+    only_then s (hears s Es address neighbour holding) (λ t. hears_each t others neighbour holding) (only_hears s Es address neighbour holding)
+    (only_hears_each (hears s Es address neighbour holding).after others neighbour holding)
 
-pub only_answers : (s : SystemState) (heard : Effect) (place : Place) → OnlyHellos s heard → OnlyHellos s (answers_new heard place)
-only_answers s heard place h =
-    only_then s heard (λ t. if list_any tells_new heard.outputs then tells_of_itself t place.port place.snpa else idles t) h
-    (only_one_of heard.after (list_any tells_new heard.outputs) _ _ (only_tells heard.after place.port place.snpa) (only_idles heard.after))
+pub only_answers : (s : SystemState) (heard : Effect) (neighbour : Neighbour) → OnlyHellos s heard → OnlyHellos s (answers_new heard neighbour)
+only_answers s heard neighbour h =
+    only_then s heard (λ t. if list_any tells_new heard.outputs then tells_of_itself t neighbour.port neighbour.snpa else idles t) h
+    (only_one_of heard.after (list_any tells_new heard.outputs) _ _ (only_tells heard.after neighbour.port neighbour.snpa) (only_idles heard.after))
 
 rest_followed : (s t : SystemState) (test : Bool) → LeavesTheRest s t → LeavesTheRest s (if test then s else t)
 rest_followed s t true h = rest-itself s
@@ -103,35 +103,35 @@ rest_follows s (Some seconds) =
     rest_followed s (record s { hello = seconds; next_hello = min s.next_hello (s.moment + 2 * seconds) }) (seconds == 0 || is_silent s)
     (record { place = refl; configuration = refl; hold = refl; moment = refl; count = refl; identifiers = refl; buffers = refl; pending = refl; congested = refl; attached = refl })
 
-only_end_system : (role : Role) (s : SystemState) (place : Place) (holding : ℕ) (addresses : List (List ℕ))
-    → OnlyHellos s (end_system_heard role s place holding addresses)
-only_end_system Host s place holding addresses = only_hears_each s addresses place holding
-only_end_system Router s place holding addresses =
-    only_answers s (hears_each s addresses place holding) place (only_hears_each s addresses place holding)
+only_end_system : (role : Role) (s : SystemState) (neighbour : Neighbour) (holding : ℕ) (addresses : List (List ℕ))
+    → OnlyHellos s (end_system_heard role s neighbour holding addresses)
+only_end_system Host s neighbour holding addresses = only_hears_each s addresses neighbour holding
+only_end_system Router s neighbour holding addresses =
+    only_answers s (hears_each s addresses neighbour holding) neighbour (only_hears_each s addresses neighbour holding)
 
-only_intermediate_system : (role : Role) (s : SystemState) (place : Place) (holding : ℕ) (title : List ℕ) (timer : Option ℕ)
-    → OnlyHellos s (intermediate_system_heard role s place holding title timer)
-only_intermediate_system Host s place holding title timer =
-    let heard = answers_new (hears s Is title place holding) place in
+only_intermediate_system : (role : Role) (s : SystemState) (neighbour : Neighbour) (holding : ℕ) (title : List ℕ) (timer : Option ℕ)
+    → OnlyHellos s (intermediate_system_heard role s neighbour holding title timer)
+only_intermediate_system Host s neighbour holding title timer =
+    let heard = answers_new (hears s Is title neighbour holding) neighbour in
     only_then s heard (λ t. idles (follows t timer))
-    (only_answers s (hears s Is title place holding) place (only_hears s Is title place holding))
+    (only_answers s (hears s Is title neighbour holding) neighbour (only_hears s Is title neighbour holding))
     (record { rest = rest_follows heard.after timer; outputs = tt; units = refl })
-only_intermediate_system Router s place holding title timer = only_gives s s _ (rest-itself s) (tt, tt)
+only_intermediate_system Router s neighbour holding title timer = only_gives s s _ (rest-itself s) (tt, tt)
 
-only_redirect : (role : Role) (s : SystemState) (place : Place) (holding : ℕ) (to via : List ℕ) → OnlyHellos s (redirect_heard role s place holding to via)
-only_redirect Host s place holding to via =
-    only_one_of s (is_router s.moment place.snpa s.facts) _ _ (only_hears s Rd to (record { port = place.port; snpa = via }) holding)
+only_redirect : (role : Role) (s : SystemState) (neighbour : Neighbour) (holding : ℕ) (to via : List ℕ) → OnlyHellos s (redirect_heard role s neighbour holding to via)
+only_redirect Host s neighbour holding to via =
+    only_one_of s (is_router s.moment neighbour.snpa s.facts) _ _ (only_hears s Rd to (record { port = neighbour.port; snpa = via }) holding)
     (only_gives s s _ (rest-itself s) (tt, tt))
-only_redirect Router s place holding to via = only_gives s s _ (rest-itself s) (tt, tt)
+only_redirect Router s neighbour holding to via = only_gives s s _ (rest-itself s) (tt, tt)
 
-pub only_heard : (role : Role) (s : SystemState) (place : Place) (holding : ℕ) (body : EsisBody) (timer : Option ℕ)
-    → OnlyHellos s (esis_heard role s place holding body timer)
-only_heard role s place holding (Esh addresses) timer = only_end_system role s place holding addresses
-only_heard role s place holding (Ish title) timer = only_intermediate_system role s place holding title timer
-only_heard role s place holding (body.Rd to via title) timer = only_redirect role s place holding to via
+pub only_heard : (role : Role) (s : SystemState) (neighbour : Neighbour) (holding : ℕ) (body : EsisBody) (timer : Option ℕ)
+    → OnlyHellos s (esis_heard role s neighbour holding body timer)
+only_heard role s neighbour holding (Esh addresses) timer = only_end_system role s neighbour holding addresses
+only_heard role s neighbour holding (Ish title) timer = only_intermediate_system role s neighbour holding title timer
+only_heard role s neighbour holding (body.Rd to via title) timer = only_redirect role s neighbour holding to via
 
-pub only_comes : (s : SystemState) (place : Place) (v : EsisValue) → OnlyHellos s (esis_comes s place v)
-only_comes s place v = only_heard s.configuration.role s place v.holding v.body (suggested v.body v.options)
+pub only_comes : (s : SystemState) (neighbour : Neighbour) (v : EsisValue) → OnlyHellos s (esis_comes s neighbour v)
+only_comes s neighbour v = only_heard s.configuration.role s neighbour v.holding v.body (suggested v.body v.options)
 
 -- what is forgotten
 
@@ -140,9 +140,9 @@ only_forgets before s = only_gives s s (map gone_note (gone before s.moment s.fa
 
 -- the answer to a packet for a group
 
-pub only_responds : (s : SystemState) (place : Place) (to_group : Bool) (p : Packet) → OnlyHellos s (responds s place to_group p)
-only_responds s place to_group p =
-    only_one_of s (is_asked_for s.configuration.role s to_group p) _ _ (only_tells s place.port place.snpa) (only_idles s)
+pub only_responds : (s : SystemState) (neighbour : Neighbour) (to_group : Bool) (p : Packet) → OnlyHellos s (responds s neighbour to_group p)
+only_responds s neighbour to_group p =
+    only_one_of s (is_asked_for s.configuration.role s to_group p) _ _ (only_tells s neighbour.port neighbour.snpa) (only_idles s)
 
 -- A system's own hello goes by its configuration and by how often it is said.
 

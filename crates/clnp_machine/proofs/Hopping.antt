@@ -4,17 +4,16 @@ use Rattle.std.specs.Prelude.{slice_get}
 use Rattle.std.specs.List.{AllByRecursion, flat_map}
 use Rattle.clnp_plan.proofs.ClnpBase.Lists.{AllByRecursion-append, AllByRecursion-contains, AllByRecursion-implies, AllByRecursion-mapped}
 use Rattle.clnp_plan.specs.PduHeader.declared.kind.Kind.TheVariants.{Dt}
-use Rattle.clnp_plan.specs.EsisTables.declared.fact.Place.{Place}
+use Rattle.clnp_plan.specs.EsisTables.declared.fact.Neighbour.{Neighbour}
 use Rattle.clnp_plan.specs.declared.config.PortConfig.{PortConfig}
-use Rattle.clnp_machine.specs.Unit as unit
-use Rattle.clnp_machine.specs.Unit.{Packet, cut, whole_packet}
+use Rattle.clnp_machine.specs.Unit.{DataUnit, Packet, cut, whole_packet}
 use Rattle.clnp_machine.specs.Content.{Labelled, Esis, Unlabelled}
 use Rattle.clnp_machine.specs.System.{SystemState, Input, AsksToSend, AsksForEcho, FrameComes, MomentComes, IsRestarted, IsCongested, IsChanged, Output, Transmits, SendsEsis, Notes, Effect, then_does}
 use Rattle.clnp_machine.specs.EditLaws.{EditLaws}
 use Rattle.clnp_machine.specs.Esis.{esis_comes, forgets, says_hello}
 use Rattle.clnp_machine.specs.Local.{Action, Deed, Sends, Tells, discard, make, receive, requests_echo, tick}
 use Rattle.clnp_machine.specs.Step.{Hop, effect_of, first_sent, octets_come, options_behind, outputs_of, packet_comes, responds, sent_on, step, transmissions, unit_hop}
-use Rattle.clnp_machine.specs.Steps.{GoesOnOf, IsFresh, IsOfHellos, OnlyHellos, SendsOn, SendsRangesOrGoesOn, moment_after}
+use Rattle.clnp_machine.specs.EveryStep.{GoesOnOf, IsFresh, IsOfHellos, OnlyHellos, SendsOn, SendsRangesOrGoesOn, moment_after}
 use Rattle.clnp_machine.specs.Ways.{IsFirstOrGoesOn, IsOwnWhereFirst}
 use Rattle.clnp_machine.proofs.Deeds.{step_fresh}
 use Rattle.clnp_machine.proofs.Hellos.{only_comes, only_forgets, only_responds, only_says_hello, only_then}
@@ -27,19 +26,19 @@ abbrev SendsFirst : Output → Type 0
 SendsFirst (Transmits port target packet) = packet.hops ≡ 0
 SendsFirst _ = Unit {0}
 
-transmitted_first : (u : unit.Unit) (hop : Hop) (found : Option (List Packet))
+transmitted_first : (u : DataUnit) (hop : Hop) (found : Option (List Packet))
     → ((packets : List Packet) → found ≡ Some packets → AllByRecursion (IsPartOf (whole_packet u)) packets) → AllByRecursion SendsFirst (transmissions hop found)
 transmitted_first u hop None h = (tt, tt)
 transmitted_first u hop (Some packets) h =
     AllByRecursion-mapped (IsPartOf (whole_packet u)) SendsFirst (λ packet. Transmits hop.port hop.target packet) packets (λ packet part. part.hops)
     (h packets refl)
 
-sent_first : (hop : Hop) (port : Option PortConfig) (u : unit.Unit) → AllByRecursion SendsFirst (sent_on hop port u)
+sent_first : (hop : Hop) (port : Option PortConfig) (u : DataUnit) → AllByRecursion SendsFirst (sent_on hop port u)
 sent_first hop None u = (tt, tt)
 sent_first hop (Some port) u =
     transmitted_first u hop (cut (whole_packet u) port.mtu) (λ packets gives. cut_is_parts (whole_packet u) port.mtu packets gives)
 
-first_first : (s : SystemState) (u : unit.Unit) (hop : Option Hop) → AllByRecursion SendsFirst (first_sent s u hop)
+first_first : (s : SystemState) (u : DataUnit) (hop : Option Hop) → AllByRecursion SendsFirst (first_sent s u hop)
 first_first s u None = (tt, tt)
 first_first s u (Some hop) = sent_first hop (slice_get s.attached.ports hop.port) u
 
@@ -88,7 +87,7 @@ packet_such : (laws : EditLaws) (s : SystemState) (at : ℕ) (sender : List ℕ)
     → AreSuch laws s (FrameComes at sender to_group (Labelled p following)) (packet_comes s (record { port = at; snpa = sender }) p following).outputs
 packet_such laws s at sender to_group p following =
     let input : Input = FrameComes at sender to_group (Labelled p following) in
-    let came : Place = record { port = at; snpa = sender } in
+    let came : Neighbour = record { port = at; snpa = sender } in
     packet_does (λ effect. AreSuch laws s input effect.outputs) s came p following
     (λ reason of_none. deed_such laws s input (discard s (Labelled p following) reason 0))
     (λ router way port given there alive gives known.
@@ -100,12 +99,12 @@ pub step_such : EditLaws → (s : SystemState) (input : Input) → AllByRecursio
 step_such laws s (AsksToSend from to octets ask) = deed_such laws s (AsksToSend from to octets ask) (make s Dt from to octets ask)
 step_such laws s (AsksForEcho from to octets) = deed_such laws s (AsksForEcho from to octets) (requests_echo s from to octets)
 step_such laws s (FrameComes port sender to_group (Labelled p following)) =
-    let place : Place = record { port = port; snpa = sender } in
-    then_such laws s (FrameComes port sender to_group (Labelled p following)) (packet_comes s place p following) (λ t. responds t place to_group p)
-    (packet_such laws s port sender to_group p following) (only_responds (packet_comes s place p following).after place to_group p)
+    let neighbour : Neighbour = record { port = port; snpa = sender } in
+    then_such laws s (FrameComes port sender to_group (Labelled p following)) (packet_comes s neighbour p following) (λ t. responds t neighbour to_group p)
+    (packet_such laws s port sender to_group p following) (only_responds (packet_comes s neighbour p following).after neighbour to_group p)
 step_such laws s (FrameComes port sender to_group (Esis value following)) =
-    let place : Place = record { port = port; snpa = sender } in
-    hellos_such laws s (FrameComes port sender to_group (Esis value following)) s (esis_comes s place value) (only_comes s place value)
+    let neighbour : Neighbour = record { port = port; snpa = sender } in
+    hellos_such laws s (FrameComes port sender to_group (Esis value following)) s (esis_comes s neighbour value) (only_comes s neighbour value)
 step_such laws s (FrameComes port sender to_group (Unlabelled octets)) = deed_such laws s (FrameComes port sender to_group (Unlabelled octets)) (octets_come s octets)
 step_such laws s (MomentComes now) =
     let ticked = (tick s now).after in

@@ -7,9 +7,9 @@ use Rattle.clnp_plan.proofs.ClnpBase.Choices.{option_or-none, option_or-some}
 use Rattle.clnp_plan.specs.Forwarding.declared.route.Route.{Route}
 use Rattle.clnp_plan.specs.Forwarding.Longest.{longest}
 use Rattle.clnp_plan.specs.PduHeader.Spelling.{header_length}
-use Rattle.clnp_plan.specs.EsisTables.declared.fact.Place.{Place}
+use Rattle.clnp_plan.specs.EsisTables.declared.fact.Neighbour.{Neighbour}
 use Rattle.clnp_plan.specs.EsisTables.declared.fact.TableKind.TheVariants.{Es, Rd}
-use Rattle.clnp_plan.specs.EsisTables.NextHop.{current_place, last_router}
+use Rattle.clnp_plan.specs.EsisTables.NextHop.{current_neighbour, last_router}
 use Rattle.clnp_plan.specs.declared.config.Role.{Role}
 use Rattle.clnp_plan.specs.declared.config.Role.TheVariants.{Host, Router}
 use Rattle.clnp_machine.specs.Unit.{Packet, more_follows, value_of, value_with}
@@ -20,28 +20,28 @@ use Rattle.clnp_machine.specs.Ways.{IsAllOfItsUnit}
 use Rattle.clnp_machine.proofs.Headers.{header_length-is}
 
 module _ (s : SystemState) (to : List ℕ) where
-  abbrev redirected : Option Place
-  redirected = current_place s.moment Rd to s.facts
+  abbrev redirected : Option Neighbour
+  redirected = current_neighbour s.moment Rd to s.facts
 
-  abbrev end_system : Option Place
-  end_system = current_place s.moment Es to s.facts
+  abbrev end_system : Option Neighbour
+  end_system = current_neighbour s.moment Es to s.facts
 
-  abbrev router : Option Place
+  abbrev router : Option Neighbour
   router = last_router s.moment s.facts
 
-  host_by : (found : Option Place) → s.configuration.role ≡ Host → option_or redirected (option_or end_system router) ≡ found
+  host_by : (found : Option Neighbour) → s.configuration.role ≡ Host → option_or redirected (option_or end_system router) ≡ found
       → next_hop s to ≡ Some (host_hop found)
-  host_by found host e = ap (λ (role : Role). hop_of role s to) host ∙ ap (λ (place : Option Place). Some (host_hop place)) e
+  host_by found host e = ap (λ (role : Role). hop_of role s to) host ∙ ap (λ (neighbour : Option Neighbour). Some (host_hop neighbour)) e
 
-  pub by_redirect : (place : Place) → s.configuration.role ≡ Host → redirected ≡ Some place → next_hop s to ≡ Some (hop_to place)
-  by_redirect place host e = host_by (Some place) host (option_or-some redirected (option_or end_system router) place e)
+  pub by_redirect : (neighbour : Neighbour) → s.configuration.role ≡ Host → redirected ≡ Some neighbour → next_hop s to ≡ Some (hop_to neighbour)
+  by_redirect neighbour host e = host_by (Some neighbour) host (option_or-some redirected (option_or end_system router) neighbour e)
 
-  pub by_end_system : (place : Place) → s.configuration.role ≡ Host → redirected ≡ None → end_system ≡ Some place → next_hop s to ≡ Some (hop_to place)
-  by_end_system place host none e =
-      host_by (Some place) host
-      (option_or-none redirected (option_or end_system router) (Some place) none (option_or-some end_system router place e))
+  pub by_end_system : (neighbour : Neighbour) → s.configuration.role ≡ Host → redirected ≡ None → end_system ≡ Some neighbour → next_hop s to ≡ Some (hop_to neighbour)
+  by_end_system neighbour host none e =
+      host_by (Some neighbour) host
+      (option_or-none redirected (option_or end_system router) (Some neighbour) none (option_or-some end_system router neighbour e))
 
-  pub by_last_router : (found : Option Place) → s.configuration.role ≡ Host → redirected ≡ None → end_system ≡ None → router ≡ found
+  pub by_last_router : (found : Option Neighbour) → s.configuration.role ≡ Host → redirected ≡ None → end_system ≡ None → router ≡ found
       → next_hop s to ≡ Some (host_hop found)
   by_last_router found host none unheard e =
       host_by found host (option_or-none redirected (option_or end_system router) found none (option_or-none end_system router found unheard e))
@@ -49,10 +49,10 @@ module _ (s : SystemState) (to : List ℕ) where
   router_by : (found : Option Way) → s.configuration.role ≡ Router → way_of s to ≡ found → next_hop s to ≡ option_map hop_by found
   router_by found is e = ap (λ (role : Role). hop_of role s to) is ∙ ap (option_map hop_by) e
 
-  pub by_neighbour : (place : Place) → s.configuration.role ≡ Router → end_system ≡ Some place → next_hop s to ≡ Some (hop_to place)
-  by_neighbour place is e =
-      router_by (Some (to_neighbour place)) is
-      (option_or-some (option_map to_neighbour end_system) (option_map by_route (longest to s.attached.routes)) (to_neighbour place)
+  pub by_neighbour : (neighbour : Neighbour) → s.configuration.role ≡ Router → end_system ≡ Some neighbour → next_hop s to ≡ Some (hop_to neighbour)
+  by_neighbour neighbour is e =
+      router_by (Some (to_neighbour neighbour)) is
+      (option_or-some (option_map to_neighbour end_system) (option_map by_route (longest to s.attached.routes)) (to_neighbour neighbour)
       (ap (option_map to_neighbour) e))
 
   pub by_longest : (found : Option Route) → s.configuration.role ≡ Router → end_system ≡ None → longest to s.attached.routes ≡ found

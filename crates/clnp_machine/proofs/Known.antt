@@ -7,7 +7,7 @@ use Rattle.clnp_plan.proofs.ClnpBase.Lists.{AllByRecursion-implies}
 use Rattle.clnp_plan.specs.EsisTables.declared.fact.EsisLimits.{EsisLimits}
 use Rattle.clnp_plan.specs.EsisTables.declared.fact.Heard.{Heard}
 use Rattle.clnp_plan.specs.EsisTables.declared.fact.Heard.TheVariants.{New, Again, Zero, Full}
-use Rattle.clnp_plan.specs.EsisTables.declared.fact.Place.{Place}
+use Rattle.clnp_plan.specs.EsisTables.declared.fact.Neighbour.{Neighbour}
 use Rattle.clnp_plan.specs.EsisTables.declared.fact.TableKind.{TableKind}
 use Rattle.clnp_plan.specs.EsisTables.declared.fact.TableKind.TheVariants.{Es}
 use Rattle.clnp_plan.specs.EsisTables.Fact.{Fact, after, answer, current, currents, end_of, has_key, hearing, is_held, is_noted, latest, limit_of, while_held}
@@ -53,9 +53,9 @@ by_answer false false true kept new = absurd (cc)
 by_answer false false false kept new = (refl, refl, refl)
 
 -- hearings of a table at a moment
-module _ (limits : EsisLimits) (now : ℕ) (table : TableKind) (place : Place) (holding : ℕ) where
+module _ (limits : EsisLimits) (now : ℕ) (table : TableKind) (neighbour : Neighbour) (holding : ℕ) where
   abbrev heard : List ℕ → Fact
-  heard key = hearing now table key place holding
+  heard key = hearing now table key neighbour holding
 
   -- nothing new can be heard of a key: it is to be held no time, it is known, or the table is full
   abbrev pub IsKnown : List ℕ → List Fact → Type 0
@@ -138,8 +138,8 @@ module _ (limits : EsisLimits) (now : ℕ) (table : TableKind) (place : Place) (
 -- addresses that are heard, one after another
 
 -- nothing new can be heard by a system of an address of an end system
-abbrev pub IsKnownTo : Place → ℕ → SystemState → List ℕ → Type 0
-IsKnownTo place holding s key = IsKnown (esis_limits s) s.moment Es place holding key s.facts
+abbrev pub IsKnownTo : Neighbour → ℕ → SystemState → List ℕ → Type 0
+IsKnownTo neighbour holding s key = IsKnown (esis_limits s) s.moment Es neighbour holding key s.facts
 
 pub told_old : (table : TableKind) (key : List ℕ) (heard : Heard) → (heard ≡ New → ⊥) → tells_new (Notes (Hear table key heard)) ≡ false
 told_old table key New old = absurd (old refl)
@@ -147,30 +147,30 @@ told_old table key Again old = refl
 told_old table key Zero old = refl
 told_old table key (Full kept) old = refl
 
-module _ (place : Place) (holding : ℕ) where
-  pub none_new : (s : SystemState) (addresses : List (List ℕ)) → AllByRecursion (IsKnownTo place holding s) addresses
-      → list_any tells_new (hears_each s addresses place holding).outputs ≡ false
+module _ (neighbour : Neighbour) (holding : ℕ) where
+  pub none_new : (s : SystemState) (addresses : List (List ℕ)) → AllByRecursion (IsKnownTo neighbour holding s) addresses
+      → list_any tells_new (hears_each s addresses neighbour holding).outputs ≡ false
   none_new s [] known = refl
   none_new s (address ∷ others) known =
-      let t = (hears s Es address place holding).after in
-      ap (λ (first : Bool). first || list_any tells_new (hears_each t others place holding).outputs)
-      (told_old Es address (answer (esis_limits s) (hearing s.moment Es address place holding) s.facts)
-      (not_new (esis_limits s) s.moment Es place holding address s.facts known.0))
+      let t = (hears s Es address neighbour holding).after in
+      ap (λ (first : Bool). first || list_any tells_new (hears_each t others neighbour holding).outputs)
+      (told_old Es address (answer (esis_limits s) (hearing s.moment Es address neighbour holding) s.facts)
+      (not_new (esis_limits s) s.moment Es neighbour holding address s.facts known.0))
       ∙ none_new t others
-      (AllByRecursion-implies (IsKnownTo place holding s) (IsKnownTo place holding t)
-      (λ key is. stays_known (esis_limits s) s.moment Es place holding key address s.facts is) others known.1)
+      (AllByRecursion-implies (IsKnownTo neighbour holding s) (IsKnownTo neighbour holding t)
+      (λ key is. stays_known (esis_limits s) s.moment Es neighbour holding key address s.facts is) others known.1)
 
-  stays_known_to : (s : SystemState) (addresses : List (List ℕ)) (key : List ℕ) → IsKnownTo place holding s key
-      → IsKnownTo place holding (hears_each s addresses place holding).after key
+  stays_known_to : (s : SystemState) (addresses : List (List ℕ)) (key : List ℕ) → IsKnownTo neighbour holding s key
+      → IsKnownTo neighbour holding (hears_each s addresses neighbour holding).after key
   stays_known_to s [] key known = known
   stays_known_to s (address ∷ others) key known =
-      stays_known_to (hears s Es address place holding).after others key
-      (stays_known (esis_limits s) s.moment Es place holding key address s.facts known)
+      stays_known_to (hears s Es address neighbour holding).after others key
+      (stays_known (esis_limits s) s.moment Es neighbour holding key address s.facts known)
 
   pub all_known : (s : SystemState) (addresses : List (List ℕ))
-      → AllByRecursion (IsKnownTo place holding (hears_each s addresses place holding).after) addresses
+      → AllByRecursion (IsKnownTo neighbour holding (hears_each s addresses neighbour holding).after) addresses
   all_known s [] = tt
   all_known s (address ∷ others) = (
-    stays_known_to (hears s Es address place holding).after others address (becomes_known (esis_limits s) s.moment Es place holding address s.facts),
-    all_known (hears s Es address place holding).after others,
+    stays_known_to (hears s Es address neighbour holding).after others address (becomes_known (esis_limits s) s.moment Es neighbour holding address s.facts),
+    all_known (hears s Es address neighbour holding).after others,
   )

@@ -8,10 +8,10 @@ use Rattle.std.proofs.lemmas.Bool.Decides.{nat_tests}
 use Rattle.std.proofs.lemmas.List.Elements.{Contains-append_left, Contains-append_right}
 use Rattle.clnp_plan.specs.PduHeader.declared.kind.Kind.{Kind}
 use Rattle.clnp_plan.specs.PduHeader.declared.kind.Kind.TheVariants.{Dt, Er, Erq, Erp}
-use Rattle.clnp_machine.specs.Unit.{Unit as DataUnit}
+use Rattle.clnp_machine.specs.Unit.{DataUnit}
 use Rattle.clnp_machine.specs.System.{SystemState, number_behind}
 use Rattle.clnp_machine.specs.Local.{makes, most_pending, with_made, within_most, without_answered}
-use Rattle.clnp_machine.specs.Steps.{AreNumbered}
+use Rattle.clnp_machine.specs.EveryStep.{AreNumbered}
 use Rattle.clnp_machine.proofs.Kept.{all_contained}
 
 -- units are numbered one behind another, from behind a number up to a last one

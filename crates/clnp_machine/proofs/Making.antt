@@ -6,7 +6,7 @@ use Rattle.clnp_plan.specs.PduHeader.declared.kind.Kind.{Kind}
 use Rattle.clnp_plan.specs.PduHeader.Spelling.{counted, segmentation_octets}
 use Rattle.clnp_plan.specs.declared.ask.Ask.{Ask}
 use Rattle.clnp_plan.specs.declared.note.Note.{Note}
-use Rattle.clnp_machine.specs.Unit as unit
+use Rattle.clnp_machine.specs.Unit.{DataUnit}
 use Rattle.clnp_machine.specs.System.{SystemState}
 use Rattle.clnp_machine.specs.Identifiers.{Identifiers, IsBusy, IsQuiet, busy, last_use, next, not_drawn}
 use Rattle.clnp_machine.specs.Told.{IsAllowed, LeavesRefused, MayBeDrawn}
@@ -24,22 +24,22 @@ allowing_of : (own : Bool) (len size : ℕ) (first second third : Note) (last : 
     → (if not own then Some first else if nat_lt most_octets len then Some second else if nat_lt 254 size then Some third else last) ≡ None
 allowing_of own len size first second third last is few short none = grind (arith, nat_tests)
 
-pub allowing : (s : SystemState) (u : unit.Unit) → IsAllowed s u → refusal s u ≡ None
+pub allowing : (s : SystemState) (u : DataUnit) → IsAllowed s u → refusal s u ≡ None
 allowing s u h = allowing_of (is_own s u.source) (length u.octets) (header_size u) _ _ _ (identifier_refusal s u.identifier) h.own h.octets h.header h.identifier
 
-pub allowed : (s : SystemState) (u : unit.Unit) → refusal s u ≡ None → IsAllowed s u
+pub allowed : (s : SystemState) (u : DataUnit) → refusal s u ≡ None → IsAllowed s u
 allowed s u none =
     let (own, octets, header, identifier) = allowed_of (is_own s u.source) (length u.octets) (header_size u) _ _ _ (identifier_refusal s u.identifier) none in
     record { own = own; octets = octets; header = header; identifier = identifier }
 
 -- How many octets a header has doesn't go by the total length that it says.
 
-abbrev header_with : unit.Unit → ℕ → Option ℕ → ℕ
+abbrev header_with : DataUnit → ℕ → Option ℕ → ℕ
 header_with u total identifier =
     9 + length (counted u.destination ++ (counted u.source ++
     (segmentation_octets (option_map (λ i. record { identifier = i; offset = 0; total = total }) identifier) ++ spelled u.options)))
 
-same_header : (u : unit.Unit) (a b : ℕ) (identifier : Option ℕ) → header_with u a identifier ≡ header_with u b identifier
+same_header : (u : DataUnit) (a b : ℕ) (identifier : Option ℕ) → header_with u a identifier ≡ header_with u b identifier
 same_header u a b None = refl
 same_header u a b (Some identifier) = simp length-append
 
@@ -65,7 +65,7 @@ pub unmade_elsewhere : (s : SystemState) (kind : Kind) (from to octets : List �
     → LeavesRefused s (make s kind from to octets ask)
 unmade_elsewhere s kind from to octets ask h = go (refusal s u) refl
   where
-    u : unit.Unit
+    u : DataUnit
     u = unit_of s kind from to octets ask
 
     go : (refused : Option Note) → refusal s u ≡ refused → LeavesRefused s (unless_refused refused s u)

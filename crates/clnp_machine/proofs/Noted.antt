@@ -16,21 +16,20 @@ use Rattle.reassembly.specs.Buffer.{Answer, Buffer}
 use Rattle.esis_pdus.specs.declared.pdu.EsisRefusal.{EsisRefusal}
 use Rattle.esis_pdus.specs.declared.pdu.EsisRefusal.TheVariants.{NotEsis, Broken}
 use Rattle.esis_pdus.specs.Rules.{why_refused}
-use Rattle.clnp_plan.specs.EsisTables.declared.fact.Place.{Place}
+use Rattle.clnp_plan.specs.EsisTables.declared.fact.Neighbour.{Neighbour}
 use Rattle.clnp_plan.specs.declared.ask.Ask.{Ask}
 use Rattle.clnp_plan.specs.declared.config.PortConfig.{PortConfig}
 use Rattle.clnp_plan.specs.declared.note.Note.{Note}
 use Rattle.clnp_plan.specs.declared.note.Note.TheVariants.{BadEsis, Discard, Echoed, Expired, Gone, Got, Hear, Ignored, Port, Refused, Report, Restart, Route, Sent, Stray, Unroute}
 use Rattle.clnp_plan.specs.declared.note.Why.TheVariants as why
 use Rattle.clnp_machine.specs.Identifiers.{NotDrawn, IsQuiet, IsBusy, not_drawn}
-use Rattle.clnp_machine.specs.Unit as unit
-use Rattle.clnp_machine.specs.Unit.{Packet, value_of, whole_packet, cut}
+use Rattle.clnp_machine.specs.Unit.{DataUnit, Packet, value_of, whole_packet, cut}
 use Rattle.clnp_machine.specs.Content.{Content, Labelled, Esis, Unlabelled, frame_of}
 use Rattle.clnp_machine.specs.System.{SystemState, Input, AsksToSend, AsksForEcho, FrameComes, MomentComes, IsRestarted, IsCongested, IsChanged, Output, Transmits, SendsEsis, Notes, Effect, then_does, table_limits}
 use Rattle.clnp_machine.specs.Local.{Action, Sends, Tells, Deed, at_moment, data_in, discard, discard_first, echo_ask, expire, give_up_due, gives_up, hand_up, header_size, identifier_refusal, is_all, is_answer, is_own, make, makes, most_octets, not_drawn_note, offer, offered, receive, refusal, report_unit, reports_from, requests_echo, rests, sent_note, takes_in, takes_reply, tick, unit_of, unless_refused}
 use Rattle.clnp_machine.specs.Esis.{esis_comes, forgets, says_hello}
 use Rattle.clnp_machine.specs.Step.{Hop, unit_hop, transmissions, sent_on, first_sent, outputs_of, effect_of, packet_comes, discard_refused, unheard_note, octets_come, responds, content_comes, step, hop_by, options_behind, redirects}
-use Rattle.clnp_machine.specs.Steps.{IsForOwn, IsNoChange, IsNoRestart, IsOfHellos, NotesOnly, OnlyHellos, RestartsNothing}
+use Rattle.clnp_machine.specs.EveryStep.{IsForOwn, IsNoChange, IsNoRestart, IsOfHellos, NotesOnly, OnlyHellos, RestartsNothing}
 use Rattle.clnp_machine.specs.Told.{IsOfNoRule, IsRefusal, IsToldBy, NoteIsQuiet, NotesNoRule, SpellsPdus, TellsOnly}
 use Rattle.clnp_machine.proofs.Hellos.{only_comes, only_forgets, only_responds, only_says_hello, only_then}
 use Rattle.clnp_machine.proofs.Kept.{all_contained}
@@ -53,7 +52,7 @@ drawing_is_refused : (s : SystemState) (identifier : Option ℕ) → IsRefusal (
 drawing_is_refused s None = tt
 drawing_is_refused s (Some identifier) = not_drawn_is_refused (not_drawn s.moment s.identifiers)
 
-pub refusal_refuses : (s : SystemState) (u : unit.Unit) → IsRefusal (refusal s u)
+pub refusal_refuses : (s : SystemState) (u : DataUnit) → IsRefusal (refusal s u)
 refusal_refuses s u =
     first_of_two (Refused why.NotMine 0) _ (not (is_own s u.source)) tt
     (first_of_two (Refused why.TooLong (length u.octets)) _ (nat_lt most_octets (length u.octets)) tt
@@ -75,11 +74,11 @@ transmissions_end : (hop : Hop) (pieces : Option (List Packet)) → AllByRecursi
 transmissions_end hop None = (segmentation, tt)
 transmissions_end hop (Some pieces) = pieces_end IsOfEnd hop pieces
 
-sent_ends : (hop : Hop) (port : Option PortConfig) (u : unit.Unit) → AllByRecursion (NotesOnly IsOfEnd) (sent_on hop port u)
+sent_ends : (hop : Hop) (port : Option PortConfig) (u : DataUnit) → AllByRecursion (NotesOnly IsOfEnd) (sent_on hop port u)
 sent_ends hop None u = (unknown, tt)
 sent_ends hop (Some port) u = transmissions_end hop (cut (whole_packet u) port.mtu)
 
-first_sent_ends : (s : SystemState) (u : unit.Unit) (hop : Option Hop) → AllByRecursion (NotesOnly IsOfEnd) (first_sent s u hop)
+first_sent_ends : (s : SystemState) (u : DataUnit) (hop : Option Hop) → AllByRecursion (NotesOnly IsOfEnd) (first_sent s u hop)
 first_sent_ends s u None = (unknown, tt)
 first_sent_ends s u (Some hop) = sent_ends hop (slice_get s.attached.ports hop.port) u
 
@@ -121,7 +120,7 @@ notes_are_told s actions =
 abbrev TellOnly : (Note → Type 0) → Deed → Type 0
 TellOnly Q deed = AllByRecursion (TellsOnly Q) deed.actions
 
-module _ (Q : Note → Type 0) (sent : (u : unit.Unit) → Q (sent_note u)) where
+module _ (Q : Note → Type 0) (sent : (u : DataUnit) → Q (sent_note u)) where
   one_tells : (test : Bool) (first second : Deed) → (test ≡ true → TellOnly Q first) → TellOnly Q second → TellOnly Q (if test then first else second)
   one_tells true first second h k = h refl
   one_tells false first second h k = k
@@ -136,7 +135,7 @@ module _ (Q : Note → Type 0) (sent : (u : unit.Unit) → Q (sent_note u)) wher
 
 -- Where buffers end, nothing is handed up.
 
-sent_ends_none : (u : unit.Unit) → IsOfEnd (sent_note u)
+sent_ends_none : (u : DataUnit) → IsOfEnd (sent_note u)
 sent_ends_none u = tt
 
 first_discarded_ends : (s : SystemState) (first : Option Packet) → TellOnly IsOfEnd (discard_first s first)
@@ -199,7 +198,7 @@ module _ (s : SystemState) (input : Input) where
   abbrev Tell : Deed → Type 0
   Tell deed = TellOnly (IsNoted s input) deed
 
-  sent_noted : (u : unit.Unit) → IsNoted s input (sent_note u)
+  sent_noted : (u : DataUnit) → IsNoted s input (sent_note u)
   sent_noted u = tt
 
   end_noted : (note : Note) → IsOfEnd note → IsNoted s input note
@@ -208,7 +207,7 @@ module _ (s : SystemState) (input : Input) where
   end_noted (Discard reason place) h = inl h
   end_noted _ h = absurd h
 
-  unless_refused_tells : (t : SystemState) (u : unit.Unit) (refused : Option Note) → IsRefusal refused → Tell (unless_refused refused t u)
+  unless_refused_tells : (t : SystemState) (u : DataUnit) (refused : Option Note) → IsRefusal refused → Tell (unless_refused refused t u)
   unless_refused_tells t u None h = (tt, (tt, tt))
   unless_refused_tells t u (Some (Refused why value)) h = (tt, tt)
   unless_refused_tells t u (Some _) h = absurd h
@@ -218,7 +217,7 @@ module _ (s : SystemState) (input : Input) where
       unless_refused_tells t (unit_of t kind from to octets ask) (refusal t (unit_of t kind from to octets ask))
       (refusal_refuses t (unit_of t kind from to octets ask))
 
-  takes_reply_tells : (t : SystemState) (source destination octets : List ℕ) (found : Option unit.Unit) → is_own s destination ≡ true
+  takes_reply_tells : (t : SystemState) (source destination octets : List ℕ) (found : Option DataUnit) → is_own s destination ≡ true
       → Tell (takes_reply t source destination octets found)
   takes_reply_tells t source destination octets None own = (own, tt)
   takes_reply_tells t source destination octets (Some request) own = (own, tt)
@@ -293,7 +292,7 @@ module _ (s : SystemState) (input : Input) where
   then_notes effect next h k =
       AllByRecursion-append (NotesOnly (IsNoted s input)) effect.outputs (next effect.after).outputs h (by_hellos effect.after (next effect.after) k)
 
-  packet_notes : (came : Place) (p : Packet) (following : List ℕ) → NoteAll (packet_comes s came p following)
+  packet_notes : (came : Neighbour) (p : Packet) (following : List ℕ) → NoteAll (packet_comes s came p following)
   packet_notes came p following =
       packet_does NoteAll s came p following
       (λ reason of_none. by_deed (discard s (Labelled p following) reason 0) (drops_tell s (Labelled p following) reason 0 of_none))
@@ -307,13 +306,13 @@ module _ (s : SystemState) (input : Input) where
 content_notes : (s : SystemState) (port : ℕ) (sender : List ℕ) (to_group : Bool) (content : Content)
     → NoteAll s (FrameComes port sender to_group content) (content_comes s (record { port = port; snpa = sender }) to_group content)
 content_notes s port sender to_group (Labelled p following) =
-    let place : Place = record { port = port; snpa = sender } in
+    let neighbour : Neighbour = record { port = port; snpa = sender } in
     let input : Input = FrameComes port sender to_group (Labelled p following) in
-    then_notes s input (packet_comes s place p following) (λ t. responds t place to_group p) (packet_notes s input place p following)
-    (only_responds (packet_comes s place p following).after place to_group p)
+    then_notes s input (packet_comes s neighbour p following) (λ t. responds t neighbour to_group p) (packet_notes s input neighbour p following)
+    (only_responds (packet_comes s neighbour p following).after neighbour to_group p)
 content_notes s port sender to_group (Esis value following) =
-    let place : Place = record { port = port; snpa = sender } in
-    by_hellos s (FrameComes port sender to_group (Esis value following)) s (esis_comes s place value) (only_comes s place value)
+    let neighbour : Neighbour = record { port = port; snpa = sender } in
+    by_hellos s (FrameComes port sender to_group (Esis value following)) s (esis_comes s neighbour value) (only_comes s neighbour value)
 content_notes s port sender to_group (Unlabelled octets) =
     let input : Input = FrameComes port sender to_group (Unlabelled octets) in by_deed s input (octets_come s octets) (octets_tell s input s octets tt)
 

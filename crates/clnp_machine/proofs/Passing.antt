@@ -4,7 +4,7 @@ use Rattle.std.proofs.Common.{◌≡◌, refl, ℕ, ◌<◌, Bool, true, false, 
 use Rattle.std.proofs.lemmas.Bool.Decides.{nat_tests}
 use Rattle.std.specs.Prelude.{◌==◌, ◌&&◌, not, nat_le, is_none, slice_get, if◌then◌else◌}
 use Rattle.std.specs.List.{AllByRecursion}
-use Rattle.clnp_plan.specs.EsisTables.declared.fact.Place.{Place}
+use Rattle.clnp_plan.specs.EsisTables.declared.fact.Neighbour.{Neighbour}
 use Rattle.clnp_plan.specs.Nsap.declared.target.Target.TheVariants.{System}
 use Rattle.clnp_plan.specs.declared.config.PortConfig.{PortConfig}
 use Rattle.clnp_plan.specs.declared.config.Role.{Role}
@@ -13,7 +13,7 @@ use Rattle.clnp_plan.specs.declared.note.Note.TheVariants.{NotMine}
 use Rattle.clnp_plan.specs.ClnpOptions.Edits.{is_complete, target_of}
 use Rattle.clnp_plan.specs.ClnpOptions.Parameter.{Parameter}
 use Rattle.clnp_plan.specs.EsisTables.declared.fact.TableKind.TheVariants.{Es}
-use Rattle.clnp_plan.specs.EsisTables.NextHop.{current_place}
+use Rattle.clnp_plan.specs.EsisTables.NextHop.{current_neighbour}
 use Rattle.clnp_machine.specs.Unit.{Packet, cut, segmentation_of}
 use Rattle.clnp_machine.specs.System.{SystemState, Effect, Output, SendsEsis, gives}
 use Rattle.clnp_machine.specs.Esis.{redirect}
@@ -26,7 +26,7 @@ not_within : (a b : ℕ) → nat_le a b ≡ false → b < a
 not_within a b e = grind (arith, nat_tests)
 
 -- what is given out where a packet goes on by a way in pieces
-abbrev pub going : SystemState → (came : Place) → Packet → (options : List Parameter) → Way → List Packet → List Output
+abbrev pub going : SystemState → (came : Neighbour) → Packet → (options : List Parameter) → Way → List Packet → List Output
 going s came p options way pieces = transmissions (hop_by way) (Some pieces) ++ redirects s came p options way
 
 -- By which way a packet goes on: that which is known, by the source route that it came with, and by what is left of it.
@@ -37,24 +37,24 @@ pub record IsItsWay (s : SystemState) (p : Packet) (way : Way) : Type 0 where
       (is_complete (options_behind s p.options) && not (ends_at (towards p.unit.destination (target_of (options_behind s p.options))) way.title)) ≡ false
 
 -- what holds of a packet that goes on in pieces, by a port that is there
-abbrev pub Onward : (Effect → Type 0) → SystemState → Place → Packet → Type 0
+abbrev pub Onward : (Effect → Type 0) → SystemState → Neighbour → Packet → Type 0
 Onward P s came p =
     let options = options_behind s p.options in
-    (way : Way) (port : PortConfig) (pieces : List Packet) → slice_get s.attached.ports way.place.port ≡ Some port → loss_at port < p.lifetime
+    (way : Way) (port : PortConfig) (pieces : List Packet) → slice_get s.attached.ports way.neighbour.port ≡ Some port → loss_at port < p.lifetime
     → cut (forwarded p (loss_at port) options) port.mtu ≡ Some pieces → IsItsWay s p way
     → P (gives s (going s came p options way pieces))
 
 -- where a redirect follows it is towards the destination
-pub redirects_are : (Q : Output → Type 0) (s : SystemState) (came : Place) (p : Packet) (options : List Parameter) (way : Way)
-    → (is_none (target_of options) ≡ true → Q (SendsEsis came.port (System came.snpa) (redirect s p.unit.destination way.place.snpa way.title)))
+pub redirects_are : (Q : Output → Type 0) (s : SystemState) (came : Neighbour) (p : Packet) (options : List Parameter) (way : Way)
+    → (is_none (target_of options) ≡ true → Q (SendsEsis came.port (System came.snpa) (redirect s p.unit.destination way.neighbour.snpa way.title)))
     → AllByRecursion Q (redirects s came p options way)
 redirects_are Q s came p options way h =
-    go (not (s.configuration.settings.rhold == 0)) (way.place.port == came.port) (is_none (target_of options)) refl
-    (begins_unit (segmentation_of p) && is_at came (current_place s.moment Es p.unit.source s.facts))
+    go (not (s.configuration.settings.rhold == 0)) (way.neighbour.port == came.port) (is_none (target_of options)) refl
+    (begins_unit (segmentation_of p) && is_at came (current_neighbour s.moment Es p.unit.source s.facts))
   where
     go : (held there towards_it : Bool) → is_none (target_of options) ≡ towards_it → (known : Bool)
         → AllByRecursion Q
-        (if held && (there && (towards_it && known)) then SendsEsis came.port (System came.snpa) (redirect s p.unit.destination way.place.snpa way.title) ∷ [] else [])
+        (if held && (there && (towards_it && known)) then SendsEsis came.port (System came.snpa) (redirect s p.unit.destination way.neighbour.snpa way.title) ∷ [] else [])
     go true true true is true = (h is, tt)
     go true true true is false = tt
     go true true false is known = tt
@@ -66,19 +66,19 @@ module _ (P : Effect → Type 0) where
   one_does true first second h k = h refl
   one_does false first second h k = k refl
 
-  module _ (s : SystemState) (came : Place) (p : Packet) (following : List ℕ)
+  module _ (s : SystemState) (came : Neighbour) (p : Packet) (following : List ℕ)
       (dropped : (reason : ℕ) → IsOfNoRule reason → P (discards s p following reason)) where
     module _ (onward : Onward P s came p) where
       abbrev options : List Parameter
       options = options_behind s p.options
 
-      pieces_do : (way : Way) (port : PortConfig) (found : Option (List Packet)) → slice_get s.attached.ports way.place.port ≡ Some port
+      pieces_do : (way : Way) (port : PortConfig) (found : Option (List Packet)) → slice_get s.attached.ports way.neighbour.port ≡ Some port
           → loss_at port < p.lifetime → cut (forwarded p (loss_at port) options) port.mtu ≡ found → IsItsWay s p way
           → P (pieces_go_on s came p following options way found)
       pieces_do way port None there alive e known = dropped _ segmentation
       pieces_do way port (Some pieces) there alive e known = onward way port pieces there alive e known
 
-      by_port_does : (way : Way) (found : Option PortConfig) → slice_get s.attached.ports way.place.port ≡ found → IsItsWay s p way
+      by_port_does : (way : Way) (found : Option PortConfig) → slice_get s.attached.ports way.neighbour.port ≡ found → IsItsWay s p way
           → P (goes_on_by s came p following options way found)
       by_port_does way None e known = dropped _ unknown
       by_port_does way (Some port) e known =
@@ -95,9 +95,9 @@ module _ (P : Effect → Type 0) where
       on_its_way_does on_route None known = no_way_does (target_of options)
       on_its_way_does on_route (Some way) known =
           one_does (is_complete options && not (ends_at (towards p.unit.destination (target_of options)) way.title)) _
-          (goes_on_by s came p following options way (slice_get s.attached.ports way.place.port)) (λ off. dropped _ path)
+          (goes_on_by s came p following options way (slice_get s.attached.ports way.neighbour.port)) (λ off. dropped _ path)
           (λ on.
-          by_port_does way (slice_get s.attached.ports way.place.port) refl (record { known = known; on_route = on_route; ends = on }))
+          by_port_does way (slice_get s.attached.ports way.neighbour.port) refl (record { known = known; on_route = on_route; ends = on }))
 
       -- a packet that a router is to send on
       pub goes_on_does : P (goes_on s came p following)

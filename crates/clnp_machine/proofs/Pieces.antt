@@ -14,7 +14,7 @@ use Rattle.segmenter.proofs.Claims.{segments_tile}
 use Rattle.clnp_plan.proofs.ClnpBase.Lists.{length_part, part_of_part}
 use Rattle.segmenter.proofs.Segments.{segment_is_pdu}
 use Rattle.segmenter.proofs.Tiles.{tiles_within}
-use Rattle.clnp_machine.specs.Steps.{AreCarriable}
+use Rattle.clnp_machine.specs.EveryStep.{AreCarriable}
 use Rattle.clnp_machine.specs.Unit.{IsCarriable, Packet, cut, more_follows, piece_of, pieces, segmentation_of, value_of, value_with, wire}
 use Rattle.clnp_machine.proofs.Headers.{header_length-is, length-header}
 

@@ -6,7 +6,7 @@ use Rattle.std.proofs.lemmas.Bool.{and_from, cond-false, cond-true, eq-eqb, fals
 use Rattle.clnp_plan.proofs.ClnpBase.SameOctets.{same-itself, same_from, same_from_equal}
 use Rattle.clnp_plan.specs.ClnpOptions.Edits.{is_complete, target_of}
 use Rattle.clnp_plan.specs.ClnpOptions.Parameter.{Parameter}
-use Rattle.clnp_plan.specs.EsisTables.declared.fact.Place.{Place}
+use Rattle.clnp_plan.specs.EsisTables.declared.fact.Neighbour.{Neighbour}
 use Rattle.clnp_plan.specs.declared.config.PortConfig.{PortConfig}
 use Rattle.clnp_plan.specs.declared.config.Role.TheVariants.{Router}
 use Rattle.clnp_machine.specs.Unit.{Packet, cut}
@@ -19,7 +19,7 @@ not_off : (first second : Bool) → (first ≡ true → second ≡ true) → (fi
 not_off true second h = ap not (h refl)
 not_off false second h = refl
 
-module _ (s : SystemState) (came : Place) (p : Packet) (following : List ℕ) where
+module _ (s : SystemState) (came : Neighbour) (p : Packet) (following : List ℕ) where
   abbrev options : List Parameter
   options = options_behind s p.options
 
@@ -68,10 +68,10 @@ module _ (s : SystemState) (came : Place) (p : Packet) (following : List ℕ) wh
           let elsewhere : ends_at (aim_of s p) way.title ≡ false =
           ap (ends_at (aim_of s p)) titled ∙ false_from_ne_true (bytes_eq title (aim_of s p)) (λ e. other (same_from title (aim_of s p) e)) in
           by_way (Some way) known
-          ∙ cond-true (is_complete options && not (ends_at (aim_of s p) way.title)) (dropped 0x93) (on_port (slice_get s.attached.ports way.place.port))
+          ∙ cond-true (is_complete options && not (ends_at (aim_of s p) way.title)) (dropped 0x93) (on_port (slice_get s.attached.ports way.neighbour.port))
           (and_from (is_complete options) (not (ends_at (aim_of s p) way.title)) complete (not_from_false (ends_at (aim_of s p) way.title) elsewhere))
 
-      module _ (allowed : IsAllowedWay s p way) (port : PortConfig) (there : slice_get s.attached.ports way.place.port ≡ Some port) where
+      module _ (allowed : IsAllowedWay s p way) (port : PortConfig) (there : slice_get s.attached.ports way.neighbour.port ≡ Some port) where
         ends : (title : Option (List ℕ)) → ((named : List ℕ) → title ≡ Some named → named ≡ aim_of s p) → ends_at (aim_of s p) title ≡ true
         ends None h = refl
         ends (Some title) h = same_from_equal title (aim_of s p) (h title refl)
@@ -79,7 +79,7 @@ module _ (s : SystemState) (came : Place) (p : Packet) (following : List ℕ) wh
         goes_by : passes_by Router s came p following ≡ on_port (Some port)
         goes_by =
             by_way (Some way) known
-            ∙ cond-false (is_complete options && not (ends_at (aim_of s p) way.title)) (dropped 0x93) (on_port (slice_get s.attached.ports way.place.port))
+            ∙ cond-false (is_complete options && not (ends_at (aim_of s p) way.title)) (dropped 0x93) (on_port (slice_get s.attached.ports way.neighbour.port))
             (not_off (is_complete options) (ends_at (aim_of s p) way.title) (λ complete. ends way.title (allowed complete)))
             ∙ ap on_port there
 

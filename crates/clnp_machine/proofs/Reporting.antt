@@ -17,13 +17,12 @@ use Rattle.error_reports.specs.Report.{source_of}
 use Rattle.echo.specs.Reply.{part_of, plain_length, reply_of}
 use Rattle.echo.proofs.Lengths.{head_is}
 use Rattle.reassembly.specs.Arrival.{Arrival}
-use Rattle.clnp_machine.specs.Unit as unit
-use Rattle.clnp_machine.specs.Unit.{IsCarriable, Packet, more_follows, segmentation_of, value_of, whole_packet, wire}
+use Rattle.clnp_machine.specs.Unit.{DataUnit, IsCarriable, Packet, more_follows, segmentation_of, value_of, whole_packet, wire}
 use Rattle.clnp_machine.specs.Content.{Labelled, Esis, Unlabelled}
 use Rattle.clnp_machine.specs.System.{SystemState, Input, AsksToSend, AsksForEcho, FrameComes, MomentComes, IsRestarted, IsCongested, IsChanged}
 use Rattle.clnp_machine.specs.Local.{IsAsOffered, echo_ask, header_size}
 use Rattle.clnp_machine.specs.Step.{step}
-use Rattle.clnp_machine.specs.Steps.{IsFair, IsReportOf, KeepsAsOffered, ReportsOn, segments_in}
+use Rattle.clnp_machine.specs.EveryStep.{IsFair, IsReportOf, KeepsAsOffered, ReportsOn, segments_in}
 use Rattle.clnp_machine.specs.Told.{SpellsPdus}
 use Rattle.clnp_machine.proofs.Deeds.{AllSuch, carried_in, leads_step, reply_unit}
 use Rattle.clnp_machine.proofs.Making.{total_is}
@@ -57,7 +56,7 @@ source_is p following h = sym (ap (λ (v : PduValue). v.source) (is_front (wire 
 
 -- Reports are of packets.
 
-of_packet : (p : Packet) (following : List ℕ) → IsCarriable p → (u : unit.Unit) → IsReportOf (wire p ++ following) u
+of_packet : (p : Packet) (following : List ℕ) → IsCarriable p → (u : DataUnit) → IsReportOf (wire p ++ following) u
     → IsReportOf (wire p) u
 of_packet p following h u is = record {
   kind = is.kind;
@@ -112,7 +111,7 @@ report_kind Erp = refl
 -- The PDU of a reply.
 
 module _ (s : SystemState) (request : PduValue) where
-  abbrev reply : unit.Unit
+  abbrev reply : DataUnit
   reply = reply_unit s request.source request.destination request.body
 
   reply_total : reply.total ≡ header_size reply + length request.body

@@ -16,12 +16,12 @@ use Rattle.esis_pdus.specs.Value.{EsisValue, suggested}
 use Rattle.esis_pdus.proofs.Made.{esh_pdu, esh_size, ish_pdu, rd_pdu}
 use Rattle.clnp_plan.specs.Forwarding.declared.route.Route.{Route}
 use Rattle.clnp_plan.specs.Forwarding.Longest.{IsLongest, longest}
-use Rattle.clnp_plan.specs.EsisTables.declared.fact.Place.{Place}
+use Rattle.clnp_plan.specs.EsisTables.declared.fact.Neighbour.{Neighbour}
 use Rattle.clnp_plan.specs.EsisTables.declared.fact.TableKind.{TableKind}
 use Rattle.clnp_plan.specs.EsisTables.declared.fact.TableKind.TheVariants.{Es, Is, Rd}
 use Rattle.clnp_plan.specs.EsisTables.Fact.{Fact, answer, is_about, is_held, is_noted, last_of, while_held}
 use Rattle.clnp_plan.specs.EsisTables.Gone.{gone}
-use Rattle.clnp_plan.specs.EsisTables.NextHop.{current_place, is_router, place_of}
+use Rattle.clnp_plan.specs.EsisTables.NextHop.{current_neighbour, is_router, neighbour_of}
 use Rattle.clnp_plan.specs.Nsap.declared.target.Target.TheVariants.{System}
 use Rattle.clnp_plan.specs.PduHeader.declared.kind.Kind.TheVariants.{Dt, Erq}
 use Rattle.clnp_plan.specs.Configuration.{HasItsAddresses, IsAddressedRoute, IsSystem, SystemConfiguration}
@@ -34,7 +34,7 @@ use Rattle.clnp_machine.specs.System.{SystemState, Input, AsksToSend, AsksForEch
 use Rattle.clnp_machine.specs.Esis.{answers_new, end_system_heard, esis_heard, esis_limits, first_of, follows, forgets, gone_note, heard_now, hearers, hears, hears_each, hello_everywhere, holding_time, intermediate_system_heard, is_silent, own_hello, redirect, redirect_heard, says_hello, tells_new, tells_of_itself, wish}
 use Rattle.clnp_machine.specs.Local.{Action, discard, echo_ask, make, receive, requests_echo, tick}
 use Rattle.clnp_machine.specs.Step.{Way, by_route, content_comes, hop_by, is_asked_for, octets_come, options_behind, outputs_of, packet_comes, redirects, responds, step, to_neighbour, towards, transmissions, way_of}
-use Rattle.clnp_machine.specs.Steps.{IsFair, IsItsOwn, KnowsAddresses, SendsEsisPdus, SendsItsOwn, sends_esis, sends_frame}
+use Rattle.clnp_machine.specs.EveryStep.{IsFair, IsItsOwn, KnowsAddresses, SendsEsisPdus, SendsItsOwn, sends_esis, sends_frame}
 use Rattle.clnp_machine.proofs.Answering.{deeds_silent, hears_notes, redirect_notes}
 use Rattle.clnp_machine.proofs.Behind.{first_is}
 use Rattle.clnp_machine.proofs.Deeds.{make_is, octets_are, packet_is, tick_is}
@@ -56,7 +56,7 @@ SendsSuch Q _ = Unit {0}
 -- the redirect that may follow a packet that comes is such
 abbrev pub RedirectsSuch : (EsisValue → Type 0) → SystemState → Content → Type 0
 RedirectsSuch Q s (Labelled p following) =
-    (way : Way) → s.configuration.role ≡ Router → way_of s p.unit.destination ≡ Some way → Q (redirect s p.unit.destination way.place.snpa way.title)
+    (way : Way) → s.configuration.role ≡ Router → way_of s p.unit.destination ≡ Some way → Q (redirect s p.unit.destination way.neighbour.snpa way.title)
 RedirectsSuch Q s _ = Unit {0}
 
 abbrev pub ComesSuch : (EsisValue → Type 0) → SystemState → Input → Type 0
@@ -81,10 +81,10 @@ module _ (Q : EsisValue → Type 0) (s : SystemState) (own : (seconds : ℕ) →
   deeds_its t actions =
       AllByRecursion-implies (λ output. sends_esis output ≡ false) (SendsSuch Q) silent_its (flat_map (outputs_of t) actions) (deeds_silent t actions)
 
-  hears_its : (t : SystemState) (addresses : List (List ℕ)) (place : Place) (holding : ℕ) → SendsIts (hears_each t addresses place holding).outputs
-  hears_its t addresses place holding =
-      AllByRecursion-implies (λ output. sends_frame output ≡ false) (SendsSuch Q) noted_its (hears_each t addresses place holding).outputs
-      (hears_notes t addresses place holding)
+  hears_its : (t : SystemState) (addresses : List (List ℕ)) (neighbour : Neighbour) (holding : ℕ) → SendsIts (hears_each t addresses neighbour holding).outputs
+  hears_its t addresses neighbour holding =
+      AllByRecursion-implies (λ output. sends_frame output ≡ false) (SendsSuch Q) noted_its (hears_each t addresses neighbour holding).outputs
+      (hears_notes t addresses neighbour holding)
 
   its_hello : (t : SystemState) → t.configuration ≡ s.configuration → Q (own_hello t)
   its_hello t same = subst Q (sym (same_hello (record s { hello = t.hello }) t same refl)) (own t.hello)
@@ -102,52 +102,52 @@ module _ (Q : EsisValue → Type 0) (s : SystemState) (own : (seconds : ℕ) →
       (range_with_len 0 (length t.attached.ports)) (λ port. its_hello t same))
       tt
 
-  answers_its : (heard : Effect) (place : Place) → heard.after.configuration ≡ s.configuration → SendsIts heard.outputs → SendsIts (answers_new heard place).outputs
-  answers_its heard place same h =
+  answers_its : (heard : Effect) (neighbour : Neighbour) → heard.after.configuration ≡ s.configuration → SendsIts heard.outputs → SendsIts (answers_new heard neighbour).outputs
+  answers_its heard neighbour same h =
       let t = heard.after in
-      AllByRecursion-append (SendsSuch Q) heard.outputs (if list_any tells_new heard.outputs then tells_of_itself t place.port place.snpa else idles t).outputs h
-      (one_its (list_any tells_new heard.outputs) _ _ (told_its t place.port place.snpa same) tt)
+      AllByRecursion-append (SendsSuch Q) heard.outputs (if list_any tells_new heard.outputs then tells_of_itself t neighbour.port neighbour.snpa else idles t).outputs h
+      (one_its (list_any tells_new heard.outputs) _ _ (told_its t neighbour.port neighbour.snpa same) tt)
 
-  end_system_its : (role : Role) (place : Place) (holding : ℕ) (addresses : List (List ℕ)) → SendsIts (end_system_heard role s place holding addresses).outputs
-  end_system_its Host place holding addresses = hears_its s addresses place holding
-  end_system_its Router place holding addresses =
-      answers_its (hears_each s addresses place holding) place (only_hears_each s addresses place holding).rest.configuration (hears_its s addresses place holding)
+  end_system_its : (role : Role) (neighbour : Neighbour) (holding : ℕ) (addresses : List (List ℕ)) → SendsIts (end_system_heard role s neighbour holding addresses).outputs
+  end_system_its Host neighbour holding addresses = hears_its s addresses neighbour holding
+  end_system_its Router neighbour holding addresses =
+      answers_its (hears_each s addresses neighbour holding) neighbour (only_hears_each s addresses neighbour holding).rest.configuration (hears_its s addresses neighbour holding)
 
-  intermediate_system_its : (role : Role) (place : Place) (holding : ℕ) (title : List ℕ) (timer : Option ℕ)
-      → SendsIts (intermediate_system_heard role s place holding title timer).outputs
-  intermediate_system_its Host place holding title timer =
-      let heard = hears s Is title place holding in
-      AllByRecursion-append (SendsSuch Q) (answers_new heard place).outputs [] (answers_its heard place refl (tt, tt)) tt
-  intermediate_system_its Router place holding title timer = (tt, tt)
+  intermediate_system_its : (role : Role) (neighbour : Neighbour) (holding : ℕ) (title : List ℕ) (timer : Option ℕ)
+      → SendsIts (intermediate_system_heard role s neighbour holding title timer).outputs
+  intermediate_system_its Host neighbour holding title timer =
+      let heard = hears s Is title neighbour holding in
+      AllByRecursion-append (SendsSuch Q) (answers_new heard neighbour).outputs [] (answers_its heard neighbour refl (tt, tt)) tt
+  intermediate_system_its Router neighbour holding title timer = (tt, tt)
 
-  heard_its : (role : Role) (place : Place) (holding : ℕ) (body : EsisBody) (timer : Option ℕ) → SendsIts (esis_heard role s place holding body timer).outputs
-  heard_its role place holding (Esh addresses) timer = end_system_its role place holding addresses
-  heard_its role place holding (Ish title) timer = intermediate_system_its role place holding title timer
-  heard_its role place holding (body.Rd to via title) timer =
-      AllByRecursion-implies (λ output. sends_frame output ≡ false) (SendsSuch Q) noted_its (redirect_heard role s place holding to via).outputs
-      (redirect_notes role s place holding to via)
+  heard_its : (role : Role) (neighbour : Neighbour) (holding : ℕ) (body : EsisBody) (timer : Option ℕ) → SendsIts (esis_heard role s neighbour holding body timer).outputs
+  heard_its role neighbour holding (Esh addresses) timer = end_system_its role neighbour holding addresses
+  heard_its role neighbour holding (Ish title) timer = intermediate_system_its role neighbour holding title timer
+  heard_its role neighbour holding (body.Rd to via title) timer =
+      AllByRecursion-implies (λ output. sends_frame output ≡ false) (SendsSuch Q) noted_its (redirect_heard role s neighbour holding to via).outputs
+      (redirect_notes role s neighbour holding to via)
 
-  packet_its : (came : Place) (p : Packet) (following : List ℕ) → RedirectsSuch Q s (Labelled p following) → SendsIts (packet_comes s came p following).outputs
+  packet_its : (came : Neighbour) (p : Packet) (following : List ℕ) → RedirectsSuch Q s (Labelled p following) → SendsIts (packet_comes s came p following).outputs
   packet_its came p following such =
       packet_does (λ effect. SendsIts effect.outputs) s came p following
       (λ reason of_none. deeds_its (discard s (Labelled p following) reason 0).after (discard s (Labelled p following) reason 0).actions)
       (λ router way port pieces there alive gives known.
       let options = options_behind s p.options in
       AllByRecursion-append (SendsSuch Q) (transmissions (hop_by way) (Some pieces)) (redirects s came p options way)
-      (AllByRecursion-map_any (SendsSuch Q) (λ piece. Transmits way.place.port (System way.place.snpa) piece) pieces (λ piece. tt))
+      (AllByRecursion-map_any (SendsSuch Q) (λ piece. Transmits way.neighbour.port (System way.neighbour.snpa) piece) pieces (λ piece. tt))
       (redirects_are (SendsSuch Q) s came p options way
       (λ none. such way router (ap (way_of s) (sym (no_title p.unit.destination (target_of options) none)) ∙ known.known))))
       (tt, tt) (λ mine. deeds_its (receive s p following).after (receive s p following).actions)
 
-  content_its : (place : Place) (to_group : Bool) (content : Content) → RedirectsSuch Q s content → SendsIts (content_comes s place to_group content).outputs
-  content_its place to_group (Labelled p following) such =
-      let come = packet_comes s place p following in
+  content_its : (neighbour : Neighbour) (to_group : Bool) (content : Content) → RedirectsSuch Q s content → SendsIts (content_comes s neighbour to_group content).outputs
+  content_its neighbour to_group (Labelled p following) such =
+      let come = packet_comes s neighbour p following in
       let t = come.after in
-      AllByRecursion-append (SendsSuch Q) come.outputs (responds t place to_group p).outputs (packet_its place p following such)
-      (one_its (is_asked_for t.configuration.role t to_group p) _ _ (told_its t place.port place.snpa (packet_is s place p following).itself.configuration) tt)
-  content_its place to_group (Esis value following) such =
-      heard_its s.configuration.role place value.holding value.body (suggested value.body value.options)
-  content_its place to_group (Unlabelled octets) such = deeds_its (octets_come s octets).after (octets_come s octets).actions
+      AllByRecursion-append (SendsSuch Q) come.outputs (responds t neighbour to_group p).outputs (packet_its neighbour p following such)
+      (one_its (is_asked_for t.configuration.role t to_group p) _ _ (told_its t neighbour.port neighbour.snpa (packet_is s neighbour p following).itself.configuration) tt)
+  content_its neighbour to_group (Esis value following) such =
+      heard_its s.configuration.role neighbour value.holding value.body (suggested value.body value.options)
+  content_its neighbour to_group (Unlabelled octets) such = deeds_its (octets_come s octets).after (octets_come s octets).actions
 
   pub step_its : (input : Input) → ComesSuch Q s input → SendsIts (step s input).outputs
   step_its (AsksToSend from to octets ask) such = deeds_its (make s Dt from to octets ask).after (make s Dt from to octets ask).actions
@@ -196,7 +196,7 @@ hello_pdu s is each = subst IsPdu (sym (hello_is s)) (said_pdu s.configuration.r
 -- Each is the system's own hello, or a redirect of its.
 
 redirects_its : (s : SystemState) (content : Content) → RedirectsSuch (IsItsOwn s) s content
-redirects_its s (Labelled p following) = λ way router known. inr (router, (p.unit.destination, way.place.snpa, way.title, refl))
+redirects_its s (Labelled p following) = λ way router known. inr (router, (p.unit.destination, way.neighbour.snpa, way.title, refl))
 redirects_its s (Esis value following) = tt
 redirects_its s (Unlabelled octets) = tt
 
@@ -237,45 +237,45 @@ last_is P table key [] all found e = absurd (cc)
 last_is P table key (fact ∷ later) all found e =
     last_one P fact found (is_about table key fact) (last_of table key later) all.0 (last_is P table key later all.1 found) e
 
-current_is : (P : Fact → Type 0) (now : ℕ) (found : Option Fact) → ((fact : Fact) → found ≡ Some fact → P fact) → (place : Place)
-    → option_map place_of (while_held now found) ≡ Some place → (fact : Fact) × P fact × (place_of fact ≡ place)
-current_is P now None each place e = absurd (cc)
-current_is P now (Some fact) each place e = go (is_held now fact) e
+current_is : (P : Fact → Type 0) (now : ℕ) (found : Option Fact) → ((fact : Fact) → found ≡ Some fact → P fact) → (neighbour : Neighbour)
+    → option_map neighbour_of (while_held now found) ≡ Some neighbour → (fact : Fact) × P fact × (neighbour_of fact ≡ neighbour)
+current_is P now None each neighbour e = absurd (cc)
+current_is P now (Some fact) each neighbour e = go (is_held now fact) e
   where
-    go : (test : Bool) → option_map place_of (if test then Some fact else None) ≡ Some place → (fact : Fact) × P fact × (place_of fact ≡ place)
+    go : (test : Bool) → option_map neighbour_of (if test then Some fact else None) ≡ Some neighbour → (fact : Fact) × P fact × (neighbour_of fact ≡ neighbour)
     go true h = (fact, each fact refl, cc)
     go false h = absurd (cc)
 
 module _ (s : SystemState) (next : AllByRecursion IsAddressedRoute s.attached.routes) (knows : KnowsAddresses s) (law : LongestIsThere) where
-  neighbour_addressed : (to : List ℕ) (place : Place) → current_place s.moment Es to s.facts ≡ Some place → IsAddress place.snpa
-  neighbour_addressed to place e =
-      let found = current_is (λ (fact : Fact). IsAddress fact.place.snpa) s.moment (last_of Es to s.facts)
-      (λ fact there. last_is (λ (fact : Fact). IsAddress fact.place.snpa) Es to s.facts knows fact there) place e in
-      subst (λ (p : Place). IsAddress p.snpa) found.2 found.1
+  neighbour_addressed : (to : List ℕ) (neighbour : Neighbour) → current_neighbour s.moment Es to s.facts ≡ Some neighbour → IsAddress neighbour.snpa
+  neighbour_addressed to neighbour e =
+      let found = current_is (λ (fact : Fact). IsAddress fact.neighbour.snpa) s.moment (last_of Es to s.facts)
+      (λ fact there. last_is (λ (fact : Fact). IsAddress fact.neighbour.snpa) Es to s.facts knows fact there) neighbour e in
+      subst (λ (p : Neighbour). IsAddress p.snpa) found.2 found.1
 
   route_addressed : (to : List ℕ) (route : Route) → longest to s.attached.routes ≡ Some route → IsAddressedRoute route
   route_addressed to route e = AllByRecursion-contains IsAddressedRoute s.attached.routes route (law to s.attached.routes route e).within next
 
-  pub way_addressed : (to : List ℕ) (way : Way) → way_of s to ≡ Some way → IsAddress way.place.snpa × IsTitleOrNone way.title
-  way_addressed to way e = go (current_place s.moment Es to s.facts) refl (longest to s.attached.routes) refl e
+  pub way_addressed : (to : List ℕ) (way : Way) → way_of s to ≡ Some way → IsAddress way.neighbour.snpa × IsTitleOrNone way.title
+  way_addressed to way e = go (current_neighbour s.moment Es to s.facts) refl (longest to s.attached.routes) refl e
     where
-      go : (near : Option Place) → current_place s.moment Es to s.facts ≡ near → (far : Option Route) → longest to s.attached.routes ≡ far
-          → option_or (option_map to_neighbour near) (option_map by_route far) ≡ Some way → IsAddress way.place.snpa × IsTitleOrNone way.title
-      go (Some place) there far found h =
-          let same : to_neighbour place ≡ way = cc in
-          subst (λ (w : Way). IsAddress w.place.snpa × IsTitleOrNone w.title) same (neighbour_addressed to place there, tt)
+      go : (near : Option Neighbour) → current_neighbour s.moment Es to s.facts ≡ near → (far : Option Route) → longest to s.attached.routes ≡ far
+          → option_or (option_map to_neighbour near) (option_map by_route far) ≡ Some way → IsAddress way.neighbour.snpa × IsTitleOrNone way.title
+      go (Some neighbour) there far found h =
+          let same : to_neighbour neighbour ≡ way = cc in
+          subst (λ (w : Way). IsAddress w.neighbour.snpa × IsTitleOrNone w.title) same (neighbour_addressed to neighbour there, tt)
       go None there (Some route) found h =
           let both = route_addressed to route found in
           let same : by_route route ≡ way = cc in
-          subst (λ (w : Way). IsAddress w.place.snpa × IsTitleOrNone w.title) same (both.snpa, both.title)
+          subst (λ (w : Way). IsAddress w.neighbour.snpa × IsTitleOrNone w.title) same (both.snpa, both.title)
       go None there None found h = absurd (cc)
 
   module _ (system : IsSystem s.configuration) (each : All IsAddress s.configuration.addresses) where
-    redirect_is_pdu : (to : List ℕ) (way : Way) → IsAddress to → way_of s to ≡ Some way → IsPdu (redirect s to way.place.snpa way.title)
+    redirect_is_pdu : (to : List ℕ) (way : Way) → IsAddress to → way_of s to ≡ Some way → IsPdu (redirect s to way.neighbour.snpa way.title)
     redirect_is_pdu to way address known =
         let both = way_addressed to way known in
         let most : s.configuration.settings.rhold ≤ 65535 = system.settings.rhold.most in
-        rd_pdu s.configuration.settings.rhold s.configuration.settings.sealed to way.place.snpa way.title (omega arith) address both.0 both.1
+        rd_pdu s.configuration.settings.rhold s.configuration.settings.sealed to way.neighbour.snpa way.title (omega arith) address both.0 both.1
 
     redirects_pdus : (content : Content) → IsCarried content → RedirectsSuch IsPdu s content
     redirects_pdus (Labelled p following) carried = λ way router known. redirect_is_pdu p.unit.destination way carried.pdu.destination known
@@ -304,24 +304,24 @@ module _ (s : SystemState) (next : AllByRecursion IsAddressedRoute s.attached.ro
 -- What a system heard of stays at addresses.
 
 abbrev AtAddresses : List Fact → Type 0
-AtAddresses facts = AllByRecursion (λ (fact : Fact). IsAddress fact.place.snpa) facts
+AtAddresses facts = AllByRecursion (λ (fact : Fact). IsAddress fact.neighbour.snpa) facts
 
-one_known : (test : Bool) (facts : List Fact) (fact : Fact) → AtAddresses facts → IsAddress fact.place.snpa
+one_known : (test : Bool) (facts : List Fact) (fact : Fact) → AtAddresses facts → IsAddress fact.neighbour.snpa
     → AtAddresses (if test then facts ++ fact ∷ [] else facts)
-one_known true facts fact knows address = AllByRecursion-append (λ (fact : Fact). IsAddress fact.place.snpa) facts (fact ∷ []) knows (address, tt)
+one_known true facts fact knows address = AllByRecursion-append (λ (fact : Fact). IsAddress fact.neighbour.snpa) facts (fact ∷ []) knows (address, tt)
 one_known false facts fact knows address = knows
 
-hears_known : (s : SystemState) (table : TableKind) (key : List ℕ) (place : Place) (holding : ℕ) → KnowsAddresses s → IsAddress place.snpa
-    → KnowsAddresses (hears s table key place holding).after
-hears_known s table key place holding knows address =
-    let fact = heard_now s table key place holding in
+hears_known : (s : SystemState) (table : TableKind) (key : List ℕ) (neighbour : Neighbour) (holding : ℕ) → KnowsAddresses s → IsAddress neighbour.snpa
+    → KnowsAddresses (hears s table key neighbour holding).after
+hears_known s table key neighbour holding knows address =
+    let fact = heard_now s table key neighbour holding in
     one_known (is_noted (answer (esis_limits s) fact s.facts)) s.facts fact knows address
 
-hears_each_known : (s : SystemState) (addresses : List (List ℕ)) (place : Place) (holding : ℕ) → KnowsAddresses s → IsAddress place.snpa
-    → KnowsAddresses (hears_each s addresses place holding).after
-hears_each_known s [] place holding knows address = knows
-hears_each_known s (first ∷ others) place holding knows address =
-    hears_each_known (hears s Es first place holding).after others place holding (hears_known s Es first place holding knows address) address
+hears_each_known : (s : SystemState) (addresses : List (List ℕ)) (neighbour : Neighbour) (holding : ℕ) → KnowsAddresses s → IsAddress neighbour.snpa
+    → KnowsAddresses (hears_each s addresses neighbour holding).after
+hears_each_known s [] neighbour holding knows address = knows
+hears_each_known s (first ∷ others) neighbour holding knows address =
+    hears_each_known (hears s Es first neighbour holding).after others neighbour holding (hears_known s Es first neighbour holding knows address) address
 
 told_known : (t : SystemState) (test : Bool) (port : ℕ) (snpa : List ℕ) → KnowsAddresses t
     → KnowsAddresses (if test then tells_of_itself t port snpa else idles t).after
@@ -341,41 +341,41 @@ follows_known s (Some seconds) knows = go (seconds == 0 || is_silent s)
     go true = knows
     go false = knows
 
-redirect_known : (role : Role) (s : SystemState) (place : Place) (holding : ℕ) (to via : List ℕ) → KnowsAddresses s → IsAddress via
-    → KnowsAddresses (redirect_heard role s place holding to via).after
-redirect_known Host s place holding to via knows address = go (is_router s.moment place.snpa s.facts)
+redirect_known : (role : Role) (s : SystemState) (neighbour : Neighbour) (holding : ℕ) (to via : List ℕ) → KnowsAddresses s → IsAddress via
+    → KnowsAddresses (redirect_heard role s neighbour holding to via).after
+redirect_known Host s neighbour holding to via knows address = go (is_router s.moment neighbour.snpa s.facts)
   where
-    better : Place
-    better = record { port = place.port; snpa = via }
+    better : Neighbour
+    better = record { port = neighbour.port; snpa = via }
 
     go : (test : Bool) → KnowsAddresses (if test then hears s Rd to better holding else gives s (Notes (Ignored true) ∷ [])).after
     go true = hears_known s Rd to better holding knows address
     go false = knows
-redirect_known Router s place holding to via knows address = knows
+redirect_known Router s neighbour holding to via knows address = knows
 
-heard_known : (role : Role) (s : SystemState) (place : Place) (holding : ℕ) (told : EsisBody) (timer : Option ℕ) → KnowsAddresses s
-    → IsAddress place.snpa → HasAddresses told → KnowsAddresses (esis_heard role s place holding told timer).after
-heard_known Host s place holding (Esh addresses) timer knows address has = hears_each_known s addresses place holding knows address
-heard_known Router s place holding (Esh addresses) timer knows address has =
-    let heard = hears_each s addresses place holding in
-    told_known heard.after (list_any tells_new heard.outputs) place.port place.snpa (hears_each_known s addresses place holding knows address)
-heard_known Host s place holding (Ish title) timer knows address has =
-    let heard = hears s Is title place holding in
-    let answered = answers_new heard place in
+heard_known : (role : Role) (s : SystemState) (neighbour : Neighbour) (holding : ℕ) (told : EsisBody) (timer : Option ℕ) → KnowsAddresses s
+    → IsAddress neighbour.snpa → HasAddresses told → KnowsAddresses (esis_heard role s neighbour holding told timer).after
+heard_known Host s neighbour holding (Esh addresses) timer knows address has = hears_each_known s addresses neighbour holding knows address
+heard_known Router s neighbour holding (Esh addresses) timer knows address has =
+    let heard = hears_each s addresses neighbour holding in
+    told_known heard.after (list_any tells_new heard.outputs) neighbour.port neighbour.snpa (hears_each_known s addresses neighbour holding knows address)
+heard_known Host s neighbour holding (Ish title) timer knows address has =
+    let heard = hears s Is title neighbour holding in
+    let answered = answers_new heard neighbour in
     follows_known answered.after timer
-    (told_known heard.after (list_any tells_new heard.outputs) place.port place.snpa (hears_known s Is title place holding knows address))
-heard_known Router s place holding (Ish title) timer knows address has = knows
-heard_known role s place holding (body.Rd to via title) timer knows address has = redirect_known role s place holding to via knows has.1
+    (told_known heard.after (list_any tells_new heard.outputs) neighbour.port neighbour.snpa (hears_known s Is title neighbour holding knows address))
+heard_known Router s neighbour holding (Ish title) timer knows address has = knows
+heard_known role s neighbour holding (body.Rd to via title) timer knows address has = redirect_known role s neighbour holding to via knows has.1
 
-content_known : (s : SystemState) (place : Place) (to_group : Bool) (content : Content) → IsAddress place.snpa → IsCarried content → KnowsAddresses s
-    → KnowsAddresses (content_comes s place to_group content).after
-content_known s place to_group (Labelled p following) address carried knows =
-    let come = packet_comes s place p following in
-    told_known come.after (is_asked_for come.after.configuration.role come.after to_group p) place.port place.snpa
-    (subst AtAddresses (sym (packet_is s place p following).heard.facts) knows)
-content_known s place to_group (Esis value following) address carried knows =
-    heard_known s.configuration.role s place value.holding value.body (suggested value.body value.options) knows address carried.addresses
-content_known s place to_group (Unlabelled octets) address carried knows = subst AtAddresses (sym (octets_are s octets).heard.facts) knows
+content_known : (s : SystemState) (neighbour : Neighbour) (to_group : Bool) (content : Content) → IsAddress neighbour.snpa → IsCarried content → KnowsAddresses s
+    → KnowsAddresses (content_comes s neighbour to_group content).after
+content_known s neighbour to_group (Labelled p following) address carried knows =
+    let come = packet_comes s neighbour p following in
+    told_known come.after (is_asked_for come.after.configuration.role come.after to_group p) neighbour.port neighbour.snpa
+    (subst AtAddresses (sym (packet_is s neighbour p following).heard.facts) knows)
+content_known s neighbour to_group (Esis value following) address carried knows =
+    heard_known s.configuration.role s neighbour value.holding value.body (suggested value.body value.options) knows address carried.addresses
+content_known s neighbour to_group (Unlabelled octets) address carried knows = subst AtAddresses (sym (octets_are s octets).heard.facts) knows
 
 pub says_known : (s : SystemState) → KnowsAddresses s → KnowsAddresses (says_hello s).after
 says_known s knows = go (not (is_silent s) && nat_le s.next_hello s.moment)

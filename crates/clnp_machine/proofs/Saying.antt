@@ -7,7 +7,7 @@ use Rattle.clnp_plan.proofs.ClnpBase.Lists.{AllByRecursion-map_any}
 use Rattle.esis_pdus.specs.Value.{EsisValue}
 use Rattle.clnp_plan.specs.EsisTables.Gone.{gone}
 use Rattle.clnp_plan.specs.Nsap.declared.target.Target.TheVariants.{System}
-use Rattle.clnp_plan.specs.EsisTables.declared.fact.Place.{Place}
+use Rattle.clnp_plan.specs.EsisTables.declared.fact.Neighbour.{Neighbour}
 use Rattle.clnp_plan.specs.Configuration.{SystemConfiguration}
 use Rattle.clnp_plan.specs.declared.config.Role.{Role}
 use Rattle.clnp_plan.specs.declared.config.Role.TheVariants.{Host, Router}
@@ -18,7 +18,7 @@ use Rattle.clnp_machine.specs.Unit.{Packet}
 use Rattle.clnp_machine.specs.Esis.{forgets, gone_note, hearers, hello_everywhere, is_silent, own_hello, says_hello}
 use Rattle.clnp_machine.specs.Local.{has_address, is_own, tick}
 use Rattle.clnp_machine.specs.Step.{is_asked_for, outputs_of, packet_comes, responds, step}
-use Rattle.clnp_machine.specs.Steps.{sends_esis}
+use Rattle.clnp_machine.specs.EveryStep.{sends_esis}
 use Rattle.clnp_machine.proofs.Answering.{NonePasses, SilentOrRedirects, deeds_silent, none_before, packet_sends}
 use Rattle.clnp_machine.proofs.Deeds.{packet_is, tick_is}
 use Rattle.clnp_machine.proofs.Hellos.{same_hello}
@@ -119,23 +119,23 @@ module _ (s : SystemState) (now : ℕ) where
 
 -- Where a packet came to a host, maybe through a group.
 
-module _ (s : SystemState) (place : Place) (to_group : Bool) (p : Packet) (following : List ℕ) (host : s.configuration.role ≡ Host) where
+module _ (s : SystemState) (neighbour : Neighbour) (to_group : Bool) (p : Packet) (following : List ℕ) (host : s.configuration.role ≡ Host) where
   abbrev come : Effect
-  come = packet_comes s place p following
+  come = packet_comes s neighbour p following
 
   abbrev answer : Effect
-  answer = responds come.after place to_group p
+  answer = responds come.after neighbour to_group p
 
   same : come.after.configuration ≡ s.configuration
-  same = (packet_is s place p following).itself.configuration
+  same = (packet_is s neighbour p following).itself.configuration
 
   same_often : come.after.hello ≡ s.hello
-  same_often = (packet_is s place p following).heard.hello
+  same_often = (packet_is s neighbour p following).heard.hello
 
   come_silent : NonePasses sends_esis come.outputs
-  come_silent = go (packet_sends s place p following)
+  come_silent = go (packet_sends s neighbour p following)
     where
-      go : SilentOrRedirects s place come.outputs → NonePasses sends_esis come.outputs
+      go : SilentOrRedirects s neighbour come.outputs → NonePasses sends_esis come.outputs
       go (inl silent) = silent
       go (inr one) = let router : s.configuration.role ≡ Router = one.1.0 in absurd (cc)
 
@@ -150,7 +150,7 @@ module _ (s : SystemState) (place : Place) (to_group : Bool) (p : Packet) (follo
   -- what it says where it is asked for or not, and silent or not
   abbrev told : (asked silent : Bool) → Effect
   told asked silent =
-      if asked then (if silent then idles come.after else gives come.after (SendsEsis place.port (System place.snpa) (own_hello come.after) ∷ []))
+      if asked then (if silent then idles come.after else gives come.after (SendsEsis neighbour.port (System neighbour.snpa) (own_hello come.after) ∷ []))
       else idles come.after
 
   answered_by : filter sends_esis (come.outputs ++ answer.outputs) ≡ filter sends_esis (told is_asked (is_silent come.after)).outputs
@@ -159,7 +159,7 @@ module _ (s : SystemState) (place : Place) (to_group : Bool) (p : Packet) (follo
       ∙ ap (λ (asked : Bool). filter sends_esis (told asked (is_silent come.after)).outputs) asked_is
 
   pub group_answered : IsAskedByGroup s to_group p
-      → filter sends_esis (come.outputs ++ answer.outputs) ≡ SendsEsis place.port (System place.snpa) (own_hello s) ∷ []
+      → filter sends_esis (come.outputs ++ answer.outputs) ≡ SendsEsis neighbour.port (System neighbour.snpa) (own_hello s) ∷ []
   group_answered is =
       let speaks : come.after.hello ≡ 0 → ⊥ = λ none. is.speaks (sym same_often ∙ none) in
       let lives : not (p.lifetime == 0) ≡ true = not_from_false (p.lifetime == 0) (ne_eqb p.lifetime 0 is.lives) in
@@ -168,7 +168,7 @@ module _ (s : SystemState) (place : Place) (to_group : Bool) (p : Packet) (follo
       (and_from to_group (not (p.lifetime == 0) && is_own s p.unit.destination) is.group
       (and_from (not (p.lifetime == 0)) (is_own s p.unit.destination) lives is.own))
       ∙ ap (λ (silent : Bool). filter sends_esis (told true silent).outputs) (ne_eqb come.after.hello 0 speaks)
-      ∙ ap (λ (value : EsisValue). SendsEsis place.port (System place.snpa) value ∷ []) (same_hello s come.after same same_often)
+      ∙ ap (λ (value : EsisValue). SendsEsis neighbour.port (System neighbour.snpa) value ∷ []) (same_hello s come.after same same_often)
 
   pub group_unanswered : ¬ (IsAskedByGroup s to_group p) → filter sends_esis (come.outputs ++ answer.outputs) ≡ []
   group_unanswered isnt = answered_by ∙ go is_asked (is_silent come.after) refl refl

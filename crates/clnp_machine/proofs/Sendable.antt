@@ -23,21 +23,20 @@ use Rattle.error_reports.specs.Report.{reason_option, source_of}
 use Rattle.error_reports.proofs.Lengths.{four}
 use Rattle.error_reports.proofs.Reason.{alone, alone_fits}
 use Rattle.reassembly.specs.Arrival.{Arrival}
-use Rattle.clnp_plan.specs.EsisTables.declared.fact.Place.{Place}
+use Rattle.clnp_plan.specs.EsisTables.declared.fact.Neighbour.{Neighbour}
 use Rattle.clnp_plan.specs.Asking.{IsFormedAsk}
 use Rattle.clnp_plan.specs.Configuration.{HasItsAddresses, IsPort, IsSystem, SystemConfiguration}
 use Rattle.clnp_plan.specs.declared.config.Role.{Role}
 use Rattle.clnp_plan.specs.declared.ask.Ask.{Ask}
 use Rattle.clnp_plan.specs.declared.config.PortConfig.{PortConfig}
 use Rattle.clnp_machine.specs.Attachment.{Attachment}
-use Rattle.clnp_machine.specs.Unit as unit
-use Rattle.clnp_machine.specs.Unit.{Packet, IsCarriable, cut, more_follows, segmentation_of, value_of, value_with, whole_packet, wire}
+use Rattle.clnp_machine.specs.Unit.{DataUnit, Packet, IsCarriable, cut, more_follows, segmentation_of, value_of, value_with, whole_packet, wire}
 use Rattle.clnp_machine.specs.Content.{Content, Esis, IsCarried, Labelled, Unlabelled}
 use Rattle.clnp_machine.specs.System.{SystemState, Input, AsksToSend, AsksForEcho, FrameComes, MomentComes, IsRestarted, IsCongested, IsChanged, Output, Transmits, SendsEsis, Notes, Effect, then_does}
 use Rattle.clnp_machine.specs.Esis.{esis_comes, forgets, says_hello, title_of}
 use Rattle.clnp_machine.specs.Local.{Action, Deed, IsAsOffered, Sends, Tells, at_moment, discard, echo_ask, header_size, identifier_for, made_in, make, most_octets, receive, refusal, report_unit, tick, unit_of}
 use Rattle.clnp_machine.specs.Step.{Hop, content_comes, effect_of, first_sent, forwarded, loss_at, moment_comes, octets_come, outputs_of, packet_comes, responds, sent_on, step, transmissions, unit_hop, hop_by, options_behind, redirects}
-use Rattle.clnp_machine.specs.Steps.{AreCarriable, ComesWith, IsFair, IsOfHellos, KeepsAsOffered, OnlyHellos, SendsCarriable}
+use Rattle.clnp_machine.specs.EveryStep.{AreCarriable, ComesWith, IsFair, IsOfHellos, KeepsAsOffered, OnlyHellos, SendsCarriable}
 use Rattle.clnp_machine.proofs.Deeds.{AllSuch, CausesSuch, Does, Replied, Reported, does_discard, does_make, does_receive, does_tick, does_with_octets, goes-nowhere}
 use Rattle.clnp_machine.proofs.Gained.{all_segments, each_kept, keeps_step}
 use Rattle.clnp_machine.proofs.Hellos.{only_comes, only_forgets, only_responds, only_says_hello, only_then}
@@ -61,7 +60,7 @@ IsSmall None = Unit {0}
 IsSmall (Some identifier) = identifier < 2 ^ 16
 
 -- what a unit is of which one PDU can carry all
-record IsSendable (u : unit.Unit) : Type 0 where
+record IsSendable (u : DataUnit) : Type 0 where
   lifetime : u.lifetime < 256
   destination : IsAddress u.destination
   source : IsAddress u.source
@@ -73,7 +72,7 @@ record IsSendable (u : unit.Unit) : Type 0 where
   octets : length u.octets ≤ most_octets
   header : header_size u ≤ 254
 
-module _ (u : unit.Unit) (h : IsSendable u) where
+module _ (u : DataUnit) (h : IsSendable u) where
   abbrev whole : Packet
   whole = whole_packet u
 
@@ -282,11 +281,11 @@ deed_carriable s deed wide h =
 found_carriable : (found : Option (List Packet)) (given : List Packet) → found ≡ Some given → AreCarriable found → AllByRecursion IsCarriable given
 found_carriable found given same h = subst AreCarriable same h
 
-onward_carriable : EditLaws → (s : SystemState) (came : Place) (p : Packet) → AllByRecursion IsPort s.attached.ports → IsAddress (title_of s)
+onward_carriable : EditLaws → (s : SystemState) (came : Neighbour) (p : Packet) → AllByRecursion IsPort s.attached.ports → IsAddress (title_of s)
     → IsCarriable p → Onward (λ effect. AllByRecursion SendsCarriable effect.outputs) s came p
 onward_carriable laws s came p each title h way port given there alive gives known =
     let options = options_behind s p.options in
-    let wide : 512 ≤ port.mtu = (AllByRecursion-slice_get IsPort s.attached.ports way.place.port port there each).mtu.least in
+    let wide : 512 ≤ port.mtu = (AllByRecursion-slice_get IsPort s.attached.ports way.neighbour.port port there each).mtu.least in
     AllByRecursion-append SendsCarriable (transmissions (hop_by way) (Some given)) (redirects s came p options way)
     (each_sent (hop_by way) given
     (found_carriable (cut (forwarded p (loss_at port) options) port.mtu) given gives
@@ -301,7 +300,7 @@ hello_carriable (Notes note) h = tt
 hellos_carriable : (s : SystemState) (effect : Effect) → OnlyHellos s effect → AllByRecursion SendsCarriable effect.outputs
 hellos_carriable s effect h = AllByRecursion-implies IsOfHellos SendsCarriable hello_carriable effect.outputs h.outputs
 
-packet_carriable : EditLaws → (s : SystemState) (came : Place) (p : Packet) (following : List ℕ) → All IsAddress s.configuration.addresses
+packet_carriable : EditLaws → (s : SystemState) (came : Neighbour) (p : Packet) (following : List ℕ) → All IsAddress s.configuration.addresses
     → IsSystem s.configuration → AllByRecursion IsPort s.attached.ports → IsCarriable p → CausesSuch IsSendable s p following
     → AllByRecursion SendsCarriable (packet_comes s came p following).outputs
 packet_carriable laws s came p following each system wide h such =
@@ -318,13 +317,13 @@ content_carriable : EditLaws → (s : SystemState) (port : ℕ) (sender : List �
     → AllSuch IsSendable s (FrameComes port sender to_group content)
     → AllByRecursion SendsCarriable (content_comes s (record { port = port; snpa = sender }) to_group content).outputs
 content_carriable laws s port sender to_group (Labelled p following) each system wide h such =
-    let place : Place = record { port = port; snpa = sender } in
-    let come = packet_comes s place p following in
-    AllByRecursion-append SendsCarriable come.outputs (responds come.after place to_group p).outputs
-    (packet_carriable laws s place p following each system wide h such)
-    (hellos_carriable come.after (responds come.after place to_group p) (only_responds come.after place to_group p))
+    let neighbour : Neighbour = record { port = port; snpa = sender } in
+    let come = packet_comes s neighbour p following in
+    AllByRecursion-append SendsCarriable come.outputs (responds come.after neighbour to_group p).outputs
+    (packet_carriable laws s neighbour p following each system wide h such)
+    (hellos_carriable come.after (responds come.after neighbour to_group p) (only_responds come.after neighbour to_group p))
 content_carriable laws s port sender to_group (Esis value following) each system wide h such =
-    let place : Place = record { port = port; snpa = sender } in hellos_carriable s (esis_comes s place value) (only_comes s place value)
+    let neighbour : Neighbour = record { port = port; snpa = sender } in hellos_carriable s (esis_comes s neighbour value) (only_comes s neighbour value)
 content_carriable laws s port sender to_group (Unlabelled octets) each system wide h such =
     deed_carriable s (octets_come s octets) wide (does_with_octets IsSendable s s (goes-nowhere s) octets such)
 

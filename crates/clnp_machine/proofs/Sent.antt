@@ -4,7 +4,7 @@ use Rattle.std.proofs.Common.{◌≡◌, ◌∙◌, ap, sym, inl, inr, ℕ, zero
 use Rattle.std.specs.List.{AllByRecursion, flat_map, range_with_len}
 use Rattle.std.proofs.lemmas.List.Elements.{Contains-append_left, Contains-append_right}
 use Rattle.std.specs.Prelude.{slice_get}
-use Rattle.clnp_plan.specs.EsisTables.declared.fact.Place.{Place}
+use Rattle.clnp_plan.specs.EsisTables.declared.fact.Neighbour.{Neighbour}
 use Rattle.clnp_plan.specs.PduHeader.declared.kind.Kind.TheVariants.{Dt}
 use Rattle.clnp_plan.specs.PduHeader.Spelling.{header_length}
 use Rattle.clnp_plan.specs.declared.config.PortConfig.{PortConfig}
@@ -12,14 +12,13 @@ use Rattle.segmenter.specs.Range.{Range}
 use Rattle.segmenter.specs.Cut.{data_room, nth_range, ranges}
 use Rattle.clnp_plan.specs.ClnpOptions.Edits.{HaveOneForm}
 use Rattle.clnp_plan.specs.ClnpOptions.Parameter.{Parameter}
-use Rattle.clnp_machine.specs.Unit as unit
-use Rattle.clnp_machine.specs.Unit.{Packet, value_of, wire, whole_packet, piece_of, pieces, cut}
+use Rattle.clnp_machine.specs.Unit.{DataUnit, Packet, value_of, wire, whole_packet, piece_of, pieces, cut}
 use Rattle.clnp_machine.specs.Content.{Labelled, Esis, Unlabelled}
 use Rattle.clnp_machine.specs.System.{SystemState, Input, AsksToSend, AsksForEcho, FrameComes, MomentComes, IsRestarted, IsCongested, IsChanged, Output, Transmits, SendsEsis, Notes, Effect, then_does}
 use Rattle.clnp_machine.specs.Esis.{esis_comes, forgets, says_hello}
 use Rattle.clnp_machine.specs.Local.{Action, Sends, Tells, Deed, discard, made_in, make, receive, requests_echo, tick}
 use Rattle.clnp_machine.specs.Step.{Hop, effect_of, first_sent, forwarded, loss_at, octets_come, outputs_of, packet_comes, passes_by, responds, sent_on, step, transmissions, unit_hop, Way, hop_by, redirects, options_behind}
-use Rattle.clnp_machine.specs.Steps.{GoesOnFrom, GoesOnOrIsReported, IsOfHellos, IsRangeOf, OnlyHellos, SendsOn, SendsRangesOf, SendsRangesOrGoesOn}
+use Rattle.clnp_machine.specs.EveryStep.{GoesOnFrom, GoesOnOrIsReported, IsOfHellos, IsRangeOf, OnlyHellos, SendsOn, SendsRangesOf, SendsRangesOrGoesOn}
 use Rattle.clnp_machine.proofs.Asked.{discard_makes}
 use Rattle.clnp_machine.proofs.Hellos.{only_comes, only_forgets, only_responds, only_says_hello, only_then}
 use Rattle.clnp_machine.specs.EditLaws.{EditLaws}
@@ -91,7 +90,7 @@ module _ (p : Packet) where
           subst (AllByRecursion (IsPartOf p)) same
           (each_piece identifier e (ranges (data_room (header_length (value_of p)) mtu) p.length) (ranges_within (data_room (header_length (value_of p)) mtu) p.length))
 
-module _ (laws : EditLaws) (units : List unit.Unit) (u : unit.Unit) (made : Contains units u) where
+module _ (laws : EditLaws) (units : List DataUnit) (u : DataUnit) (made : Contains units u) where
   part_is_range : (q : Packet) → IsPartOf (whole_packet u) q → IsRangeOf units q
   part_is_range q h =
       let same : q.unit ≡ u = h.unit in
@@ -100,8 +99,8 @@ module _ (laws : EditLaws) (units : List unit.Unit) (u : unit.Unit) (made : Cont
       let to : q.offset + q.length ≤ 0 + length u.octets = h.to in
       record {
         unit = subst (Contains units) (sym same) made;
-        options = subst (λ (o : List Parameter). HaveOneForm q.options o) (h.options ∙ ap (λ (v : unit.Unit). v.options) (sym same)) (laws.form.same q.options);
-        edits = ([], h.options ∙ ap (λ (v : unit.Unit). v.options) (sym same));
+        options = subst (λ (o : List Parameter). HaveOneForm q.options o) (h.options ∙ ap (λ (v : DataUnit). v.options) (sym same)) (laws.form.same q.options);
+        edits = ([], h.options ∙ ap (λ (v : DataUnit). v.options) (sym same));
         lifetime = rw same (omega arith);
         within = rw same (omega arith);
         whole = rw same h.whole;
@@ -129,7 +128,7 @@ module _ (laws : EditLaws) (units : List unit.Unit) (u : unit.Unit) (made : Cont
   first_sent_is_ranges s None = (tt, tt)
   first_sent_is_ranges s (Some hop) = sent_is_ranges hop (slice_get s.attached.ports hop.port)
 
-pub range_later : (units more : List unit.Unit) (p : Packet) → IsRangeOf more p → IsRangeOf (units ++ more) p
+pub range_later : (units more : List DataUnit) (p : Packet) → IsRangeOf more p → IsRangeOf (units ++ more) p
 range_later units more p h = record {
   unit = Contains-append_right units more p.unit h.unit;
   options = h.options;
@@ -139,7 +138,7 @@ range_later units more p h = record {
   whole = h.whole;
 }
 
-sends_later : (units more : List unit.Unit) (output : Output) → SendsRangesOf more output → SendsRangesOf (units ++ more) output
+sends_later : (units more : List DataUnit) (output : Output) → SendsRangesOf more output → SendsRangesOf (units ++ more) output
 sends_later units more (Transmits port target packet) h = range_later units more packet h
 sends_later units more (SendsEsis port target value) h = tt
 sends_later units more (Notes note) h = tt
@@ -154,7 +153,7 @@ sends_ranges laws s (Sends u ∷ actions) =
     (AllByRecursion-implies (SendsRangesOf (made_in actions)) (SendsRangesOf (u ∷ made_in actions)) (sends_later (u ∷ []) (made_in actions))
     (flat_map (outputs_of s) actions) (sends_ranges laws s actions))
 
-pub range_sooner : (units more : List unit.Unit) (p : Packet) → IsRangeOf units p → IsRangeOf (units ++ more) p
+pub range_sooner : (units more : List DataUnit) (p : Packet) → IsRangeOf units p → IsRangeOf (units ++ more) p
 range_sooner units more p h = record {
   unit = Contains-append_left units more p.unit h.unit;
   options = h.options;
@@ -183,10 +182,10 @@ module _ (laws : EditLaws) (s : SystemState) (p : Packet) where
         alive = omega arith;
         from = h.from;
         to = h.to;
-        whole = λ none. h.whole (ap (λ (u : unit.Unit). u.identifier) (sym same) ∙ none);
+        whole = λ none. h.whole (ap (λ (u : DataUnit). u.identifier) (sym same) ∙ none);
       }
 
-  pub onward : (came : Place) (way : Way) (port : PortConfig) (given : List Packet) → slice_get s.attached.ports way.place.port ≡ Some port
+  pub onward : (came : Neighbour) (way : Way) (port : PortConfig) (given : List Packet) → slice_get s.attached.ports way.neighbour.port ≡ Some port
       → loss_at port < p.lifetime → cut (forwarded p (loss_at port) (options_behind s p.options)) port.mtu ≡ Some given
       → AllByRecursion (SendsOn s p) (going s came p (options_behind s p.options) way given)
   onward came way port given there alive gives =
@@ -198,7 +197,7 @@ module _ (laws : EditLaws) (s : SystemState) (p : Packet) where
       (redirects_are (SendsOn s p) s came p options way (λ to. tt))
 
   -- what comes of a packet for another address goes on, or its discard is reported
-  pub passing_sends : (came : Place) (following : List ℕ) → GoesOnOrIsReported s p (wire p ++ following) (passes_by s.configuration.role s came p following)
+  pub passing_sends : (came : Neighbour) (following : List ℕ) → GoesOnOrIsReported s p (wire p ++ following) (passes_by s.configuration.role s came p following)
   passing_sends came following =
       passing_does (GoesOnOrIsReported s p (wire p ++ following)) s came p following
       (λ reason of_none.
@@ -210,26 +209,26 @@ module _ (laws : EditLaws) (s : SystemState) (p : Packet) where
 -- All that is sent in a step.
 
 module _ (laws : EditLaws) (s : SystemState) (input : Input) where
-  abbrev pub SendsSuch : List unit.Unit → Output → Type 0
+  abbrev pub SendsSuch : List DataUnit → Output → Type 0
   SendsSuch units = SendsRangesOrGoesOn s input units
 
-  made_such : (units : List unit.Unit) (output : Output) → SendsRangesOf units output → SendsSuch units output
+  made_such : (units : List DataUnit) (output : Output) → SendsRangesOf units output → SendsSuch units output
   made_such units (Transmits port target packet) h = inl h
   made_such units (SendsEsis port target value) h = tt
   made_such units (Notes note) h = tt
 
-  such_sooner : (units more : List unit.Unit) (output : Output) → SendsSuch units output → SendsSuch (units ++ more) output
+  such_sooner : (units more : List DataUnit) (output : Output) → SendsSuch units output → SendsSuch (units ++ more) output
   such_sooner units more (Transmits port target packet) (inl made) = inl (range_sooner units more packet made)
   such_sooner units more (Transmits port target packet) (inr on) = inr on
   such_sooner units more (SendsEsis port target value) h = tt
   such_sooner units more (Notes note) h = tt
 
-  hello_such : (units : List unit.Unit) (output : Output) → IsOfHellos output → SendsSuch units output
+  hello_such : (units : List DataUnit) (output : Output) → IsOfHellos output → SendsSuch units output
   hello_such units (Transmits port target packet) h = absurd h
   hello_such units (SendsEsis port target value) h = tt
   hello_such units (Notes note) h = tt
 
-  hellos_such : (t : SystemState) (units : List unit.Unit) (effect : Effect) → OnlyHellos t effect → AllByRecursion (SendsSuch units) effect.outputs
+  hellos_such : (t : SystemState) (units : List DataUnit) (effect : Effect) → OnlyHellos t effect → AllByRecursion (SendsSuch units) effect.outputs
   hellos_such t units effect h = AllByRecursion-implies IsOfHellos (SendsSuch units) (hello_such units) effect.outputs h.outputs
 
   abbrev pub SendsSuchOf : Effect → Type 0
@@ -258,7 +257,7 @@ packet_such : (laws : EditLaws) (s : SystemState) (at : ℕ) (sender : List ℕ)
     → SendsSuchOf laws s (FrameComes at sender to_group (Labelled p following)) (packet_comes s (record { port = at; snpa = sender }) p following)
 packet_such laws s at sender to_group p following =
     let input : Input = FrameComes at sender to_group (Labelled p following) in
-    let came : Place = record { port = at; snpa = sender } in
+    let came : Neighbour = record { port = at; snpa = sender } in
     let options = options_behind s p.options in
     packet_does (SendsSuchOf laws s input) s came p following (λ reason of_none. deed_such laws s input (discard s (Labelled p following) reason 0))
     (λ router way port given there alive gives known.
@@ -270,13 +269,13 @@ pub step_sends : EditLaws → (s : SystemState) (input : Input) → AllByRecursi
 step_sends laws s (AsksToSend from to octets ask) = deed_such laws s (AsksToSend from to octets ask) (make s Dt from to octets ask)
 step_sends laws s (AsksForEcho from to octets) = deed_such laws s (AsksForEcho from to octets) (requests_echo s from to octets)
 step_sends laws s (FrameComes port sender to_group (Labelled p following)) =
-    let place : Place = record { port = port; snpa = sender } in
-    then_such laws s (FrameComes port sender to_group (Labelled p following)) (packet_comes s place p following) (λ t. responds t place to_group p)
-    (packet_such laws s port sender to_group p following) (only_responds (packet_comes s place p following).after place to_group p)
+    let neighbour : Neighbour = record { port = port; snpa = sender } in
+    then_such laws s (FrameComes port sender to_group (Labelled p following)) (packet_comes s neighbour p following) (λ t. responds t neighbour to_group p)
+    (packet_such laws s port sender to_group p following) (only_responds (packet_comes s neighbour p following).after neighbour to_group p)
 step_sends laws s (FrameComes port sender to_group (Esis value following)) =
-    let place : Place = record { port = port; snpa = sender } in
-    hellos_such laws s (FrameComes port sender to_group (Esis value following)) s (esis_comes s place value).units (esis_comes s place value)
-    (only_comes s place value)
+    let neighbour : Neighbour = record { port = port; snpa = sender } in
+    hellos_such laws s (FrameComes port sender to_group (Esis value following)) s (esis_comes s neighbour value).units (esis_comes s neighbour value)
+    (only_comes s neighbour value)
 step_sends laws s (FrameComes port sender to_group (Unlabelled octets)) = deed_such laws s (FrameComes port sender to_group (Unlabelled octets)) (octets_come s octets)
 step_sends laws s (MomentComes now) =
     let ticked = (tick s now).after in

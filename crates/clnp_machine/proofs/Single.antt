@@ -7,37 +7,36 @@ use Rattle.clnp_plan.specs.PduHeader.declared.kind.Kind.TheVariants.{Dt, Er, Erq
 use Rattle.reassembly.specs.Arrival.{Arrival}
 use Rattle.reassembly.specs.Buffer as buffer
 use Rattle.reassembly.specs.Buffer.{Answer, Buffer}
-use Rattle.clnp_plan.specs.EsisTables.declared.fact.Place.{Place}
+use Rattle.clnp_plan.specs.EsisTables.declared.fact.Neighbour.{Neighbour}
 use Rattle.clnp_plan.specs.declared.note.Note.{Note}
 use Rattle.clnp_plan.proofs.ClnpBase.Choices.{one_of}
-use Rattle.clnp_machine.specs.Unit as unit
-use Rattle.clnp_machine.specs.Unit.{Packet, value_of}
+use Rattle.clnp_machine.specs.Unit.{DataUnit, Packet, value_of}
 use Rattle.clnp_machine.specs.Content.{Content, Esis, Labelled, Unlabelled, frame_of}
 use Rattle.clnp_machine.specs.System.{SystemState, Effect, table_limits}
 use Rattle.clnp_machine.specs.Local.{Deed, data_in, discard, echo_ask, hand_up, is_all, is_answer, made_in, offer, offered, receive, refusal, takes_in, takes_reply, unit_of, unless_refused}
 use Rattle.clnp_machine.specs.Step.{content_comes, octets_come, packet_comes}
-use Rattle.clnp_machine.specs.Steps.{IsAtMostReportOf}
+use Rattle.clnp_machine.specs.EveryStep.{IsAtMostReportOf}
 use Rattle.clnp_machine.proofs.Answering.{octets_reported}
 use Rattle.clnp_machine.proofs.Asked.{discard_makes}
 use Rattle.clnp_machine.proofs.Hellos.{only_comes, only_responds}
 use Rattle.clnp_machine.proofs.Passing.{packet_does}
 
 -- at most one
-abbrev AtMostOne : List unit.Unit → Type 0
+abbrev AtMostOne : List DataUnit → Type 0
 AtMostOne units = length units ≤ 1
 
-report_at_most : (frame : List ℕ) (units : List unit.Unit) → IsAtMostReportOf frame units → AtMostOne units
+report_at_most : (frame : List ℕ) (units : List DataUnit) → IsAtMostReportOf frame units → AtMostOne units
 report_at_most frame units (inl none) = subst AtMostOne (sym none) (omega arith)
 report_at_most frame units (inr one) = subst AtMostOne (sym one.1) (omega arith)
 
 discard_one : (s : SystemState) (frame : Content) (reason place : ℕ) → AtMostOne (made_in (discard s frame reason place).actions)
 discard_one s frame reason place = report_at_most (frame_of frame) (made_in (discard s frame reason place).actions) (discard_makes s frame reason place)
 
-unless_one : (s : SystemState) (u : unit.Unit) (refused : Option Note) → AtMostOne (made_in (unless_refused refused s u).actions)
+unless_one : (s : SystemState) (u : DataUnit) (refused : Option Note) → AtMostOne (made_in (unless_refused refused s u).actions)
 unless_one s u None = omega arith
 unless_one s u (Some told) = omega arith
 
-reply_one : (s : SystemState) (source destination octets : List ℕ) (found : Option unit.Unit) → AtMostOne (made_in (takes_reply s source destination octets found).actions)
+reply_one : (s : SystemState) (source destination octets : List ℕ) (found : Option DataUnit) → AtMostOne (made_in (takes_reply s source destination octets found).actions)
 reply_one s source destination octets None = omega arith
 reply_one s source destination octets (Some request) = omega arith
 
@@ -71,16 +70,16 @@ receive_one s p following =
     (takes_in_one s (Labelled p following) arrival (buffer.after (table_limits s) s.moment arrival s.buffers)
     (buffer.answer (table_limits s) s.moment arrival s.buffers))
 
-packet_one : (s : SystemState) (came : Place) (p : Packet) (following : List ℕ) → AtMostOne (packet_comes s came p following).units
+packet_one : (s : SystemState) (came : Neighbour) (p : Packet) (following : List ℕ) → AtMostOne (packet_comes s came p following).units
 packet_one s came p following =
     packet_does (λ (effect : Effect). AtMostOne effect.units) s came p following (λ reason of_none. discard_one s (Labelled p following) reason 0)
     (λ router way port pieces there alive gives known. omega arith) (omega arith) (λ mine. receive_one s p following)
 
-pub content_one : (s : SystemState) (place : Place) (to_group : Bool) (content : Content) → length (content_comes s place to_group content).units ≤ 1
-content_one s place to_group (Labelled p following) =
-    let come = packet_comes s place p following in
-    let none = (only_responds come.after place to_group p).units in
-    subst AtMostOne (sym (ap (λ (more : List unit.Unit). come.units ++ more) none)) (subst AtMostOne (sym (append-nil come.units)) (packet_one s place p following))
-content_one s place to_group (Esis value following) = subst AtMostOne (sym (only_comes s place value).units) (omega arith)
-content_one s place to_group (Unlabelled octets) =
+pub content_one : (s : SystemState) (neighbour : Neighbour) (to_group : Bool) (content : Content) → length (content_comes s neighbour to_group content).units ≤ 1
+content_one s neighbour to_group (Labelled p following) =
+    let come = packet_comes s neighbour p following in
+    let none = (only_responds come.after neighbour to_group p).units in
+    subst AtMostOne (sym (ap (λ (more : List DataUnit). come.units ++ more) none)) (subst AtMostOne (sym (append-nil come.units)) (packet_one s neighbour p following))
+content_one s neighbour to_group (Esis value following) = subst AtMostOne (sym (only_comes s neighbour value).units) (omega arith)
+content_one s neighbour to_group (Unlabelled octets) =
     report_at_most octets (made_in (octets_come s octets).actions) (octets_reported s octets)

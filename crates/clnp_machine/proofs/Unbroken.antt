@@ -5,7 +5,7 @@ use Rattle.esis_pdus.specs.Spelling.{spelling}
 use Rattle.esis_pdus.specs.Value.{EsisValue}
 use Rattle.esis_pdus.proofs.Frames as esis_frames
 use Rattle.clnp_machine.specs.Unit.{Packet, IsCarriable, value_of, wire}
-use Rattle.clnp_machine.specs.Steps.{BreaksNoEsisRule, BreaksNoRule}
+use Rattle.clnp_machine.specs.EveryStep.{BreaksNoEsisRule, BreaksNoRule}
 use Rattle.clnp_machine.proofs.Headers.{is_front}
 
 -- a frame of such a packet breaks no rule

@@ -9,10 +9,9 @@ use Rattle.clnp_plan.specs.PduHeader.declared.kind.Kind.TheVariants.{Dt, Er, Erq
 use Rattle.clnp_plan.specs.PduHeader.Rules.{is_reportable}
 use Rattle.reassembly.specs.Buffer as buffer
 use Rattle.reassembly.specs.Buffer.{Answer, Buffer}
-use Rattle.clnp_plan.specs.EsisTables.declared.fact.Place.{Place}
+use Rattle.clnp_plan.specs.EsisTables.declared.fact.Neighbour.{Neighbour}
 use Rattle.clnp_plan.specs.declared.note.Note.{Note}
-use Rattle.clnp_machine.specs.Unit as unit
-use Rattle.clnp_machine.specs.Unit.{Packet, value_of}
+use Rattle.clnp_machine.specs.Unit.{DataUnit, Packet, value_of}
 use Rattle.clnp_machine.specs.Content.{Content, Esis, Labelled, Unlabelled, frame_of}
 use Rattle.clnp_machine.specs.System.{SystemState, Input, AsksToSend, AsksForEcho, FrameComes, MomentComes, IsRestarted, IsCongested, IsChanged, Effect, table_limits}
 use Rattle.clnp_machine.specs.Esis.{forgets, says_hello}
@@ -44,15 +43,15 @@ reply_leaves s source destination octets None = refl
 reply_leaves s source destination octets (Some told) = refl
 
 -- of some requests, none is such, or there is a first one that is
-record HasFirst (is : unit.Unit → Bool) (requests : List unit.Unit) : Type 0 where
-  before : List unit.Unit
-  request : unit.Unit
-  behind : List unit.Unit
+record HasFirst (is : DataUnit → Bool) (requests : List DataUnit) : Type 0 where
+  before : List DataUnit
+  request : DataUnit
+  behind : List DataUnit
   among : requests ≡ before ++ request ∷ behind
   none_before : NoneIs is before
   it : is request ≡ true
 
-none_or_first : (is : unit.Unit → Bool) (requests : List unit.Unit) → NoneIs is requests ⊎ HasFirst is requests
+none_or_first : (is : DataUnit → Bool) (requests : List DataUnit) → NoneIs is requests ⊎ HasFirst is requests
 none_or_first is [] = inl tt
 none_or_first is (request ∷ requests) =
     elim (cases_Bool (is request)) [
@@ -64,7 +63,7 @@ none_or_first is (request ∷ requests) =
               before = request ∷ first.before;
               request = first.request;
               behind = first.behind;
-              among = ap (λ (later : List unit.Unit). request ∷ later) first.among;
+              among = ap (λ (later : List DataUnit). request ∷ later) first.among;
               none_before = (other, first.none_before);
               it = first.it;
             })
@@ -120,7 +119,7 @@ module _ (p : Packet) (following : List ℕ) where
       (hand_up_stay s p.unit.kind refl (value_of p).body p.options)
       (takes_in_stay s (buffer.after (table_limits s) s.moment arrival s.buffers) (buffer.answer (table_limits s) s.moment arrival s.buffers))
 
-  packet_stay : (s : SystemState) (came : Place) → StayUnlessAnswered p s.pending (packet_comes s came p following).after.pending
+  packet_stay : (s : SystemState) (came : Neighbour) → StayUnlessAnswered p s.pending (packet_comes s came p following).after.pending
   packet_stay s came =
       packet_does (λ (effect : Effect). StayUnlessAnswered p s.pending effect.after.pending) s came p following
       (λ reason of_none. inl (discard_leaves s (Labelled p following) reason 0)) (λ router way port pieces there alive gives known. inl refl) (inl refl)
@@ -129,9 +128,9 @@ module _ (p : Packet) (following : List ℕ) where
   pub stay_unless_answered : (s : SystemState) (port : ℕ) (sender : List ℕ) (to_group : Bool)
       → StayUnlessAnswered p s.pending (step s (FrameComes port sender to_group (Labelled p following))).after.pending
   stay_unless_answered s port sender to_group =
-      let place : Place = record { port = port; snpa = sender } in
-      let come = packet_comes s place p following in
-      subst (StayUnlessAnswered p s.pending) (sym (only_responds come.after place to_group p).rest.pending) (packet_stay s place)
+      let neighbour : Neighbour = record { port = port; snpa = sender } in
+      let come = packet_comes s neighbour p following in
+      subst (StayUnlessAnswered p s.pending) (sym (only_responds come.after neighbour to_group p).rest.pending) (packet_stay s neighbour)
 
 -- Nothing else answers them.
 

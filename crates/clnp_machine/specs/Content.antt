@@ -11,7 +11,7 @@ use Rattle.esis_pdus.specs.Reading as esis_reading
 use Rattle.esis_pdus.specs.Rules.{why_refused}
 use Rattle.esis_pdus.specs.Spelling as esis_spelling
 use Rattle.esis_pdus.specs.Value.{EsisValue}
-use Rattle.clnp_machine.specs.Unit.{Outside, Unit, Packet, wire, IsCarriable}
+use Rattle.clnp_machine.specs.Unit.{Outside, DataUnit, Packet, wire, IsCarriable}
 
 -- A packet, or the value of an ES-IS PDU, and the octets that follow its PDU in the frame; or octets that spell no PDU.
 pub data Content : Type 0 where
@@ -49,7 +49,7 @@ whole_length v None = segment_length v
 whole_length v (Some part) = part.total
 
 -- the part of a data unit that a PDU from outside has, as a unit by itself, which came at a moment
-abbrev pub unit_from_outside : (number moment : ℕ) → PduValue → Unit
+abbrev pub unit_from_outside : (number moment : ℕ) → PduValue → DataUnit
 unit_from_outside number moment v =
     record {
       maker = Outside;

@@ -11,7 +11,7 @@ use Rattle.esis_pdus.specs.Value.{EsisValue, suggested}
 use Rattle.clnp_plan.specs.EsisTables.declared.fact.EsisLimits.{EsisLimits}
 use Rattle.clnp_plan.specs.EsisTables.declared.fact.Gone.{Gone}
 use Rattle.clnp_plan.specs.EsisTables.declared.fact.Heard.TheVariants.{New}
-use Rattle.clnp_plan.specs.EsisTables.declared.fact.Place.{Place}
+use Rattle.clnp_plan.specs.EsisTables.declared.fact.Neighbour.{Neighbour}
 use Rattle.clnp_plan.specs.EsisTables.declared.fact.TableKind.{TableKind}
 use Rattle.clnp_plan.specs.EsisTables.declared.fact.TableKind.TheVariants.{Es, Is, Rd}
 use Rattle.clnp_plan.specs.EsisTables.Fact as facts
@@ -106,20 +106,20 @@ esis_limits s =
     }
 
 -- what is heard of a key at this moment (section 6.3)
-abbrev pub heard_now : SystemState → TableKind → (key : List ℕ) → Place → (holding : ℕ) → facts.Fact
-heard_now s table key place holding = facts.hearing s.moment table key place holding
+abbrev pub heard_now : SystemState → TableKind → (key : List ℕ) → Neighbour → (holding : ℕ) → facts.Fact
+heard_now s table key neighbour holding = facts.hearing s.moment table key neighbour holding
 
 -- it is kept in mind, and noted
-abbrev pub hears : SystemState → TableKind → (key : List ℕ) → Place → (holding : ℕ) → Effect
-hears s table key place holding =
-    gives (record s { facts = facts.after (esis_limits s) (heard_now s table key place holding) s.facts })
-    (Notes (note.Hear table key (facts.answer (esis_limits s) (heard_now s table key place holding) s.facts)) ∷ [])
+abbrev pub hears : SystemState → TableKind → (key : List ℕ) → Neighbour → (holding : ℕ) → Effect
+hears s table key neighbour holding =
+    gives (record s { facts = facts.after (esis_limits s) (heard_now s table key neighbour holding) s.facts })
+    (Notes (note.Hear table key (facts.answer (esis_limits s) (heard_now s table key neighbour holding) s.facts)) ∷ [])
 
 -- each address of an end system is heard, in order
-abbrev pub hears_each : SystemState → (addresses : List (List ℕ)) → Place → (holding : ℕ) → Effect
-hears_each s [] place holding = idles s
-hears_each s (address ∷ others) place holding =
-    then_does (hears s Es address place holding) (λ t. hears_each t others place holding)
+abbrev pub hears_each : SystemState → (addresses : List (List ℕ)) → Neighbour → (holding : ℕ) → Effect
+hears_each s [] neighbour holding = idles s
+hears_each s (address ∷ others) neighbour holding =
+    then_does (hears s Es address neighbour holding) (λ t. hears_each t others neighbour holding)
 
 -- whether an output says that something new was heard
 abbrev pub tells_new : Output → Bool
@@ -127,9 +127,9 @@ tells_new (Notes (note.Hear table key New)) = true
 tells_new _ = false
 
 -- where something new was heard, the system tells of itself there (section 6.7)
-abbrev pub answers_new : Effect → Place → Effect
-answers_new heard place =
-    then_does heard (λ t. if list_any tells_new heard.outputs then tells_of_itself t place.port place.snpa else idles t)
+abbrev pub answers_new : Effect → Neighbour → Effect
+answers_new heard neighbour =
+    then_does heard (λ t. if list_any tells_new heard.outputs then tells_of_itself t neighbour.port neighbour.snpa else idles t)
 
 -- A suggested timer counts where it is above 0 and the system says hello. It is then the period, and the next hello is due no
 -- later than one such period from now (ISO 9542:1988).
@@ -140,32 +140,33 @@ follows s (Some seconds) =
     else record s { hello = seconds; next_hello = min s.next_hello (s.moment + 2 * seconds) }
 
 -- an end system hello comes: routers answer what is new in it
-abbrev pub end_system_heard : Role → SystemState → Place → (holding : ℕ) → (addresses : List (List ℕ)) → Effect
-end_system_heard Host s place holding addresses = hears_each s addresses place holding
-end_system_heard Router s place holding addresses = answers_new (hears_each s addresses place holding) place
+abbrev pub end_system_heard : Role → SystemState → Neighbour → (holding : ℕ) → (addresses : List (List ℕ)) → Effect
+end_system_heard Host s neighbour holding addresses = hears_each s addresses neighbour holding
+end_system_heard Router s neighbour holding addresses = answers_new (hears_each s addresses neighbour holding) neighbour
 
 -- an intermediate system hello comes: hosts answer a new one, and then follow its wish; routers don't hear other routers
-abbrev pub intermediate_system_heard : Role → SystemState → Place → (holding : ℕ) → (title : List ℕ) → (timer : Option ℕ) → Effect
-intermediate_system_heard Host s place holding title timer =
-    then_does (answers_new (hears s Is title place holding) place) (λ t. idles (follows t timer))
-intermediate_system_heard Router s place holding title timer = gives s (Notes (note.Ignored false) ∷ [])
+abbrev pub intermediate_system_heard : Role → SystemState → Neighbour → (holding : ℕ) → (title : List ℕ)
+    → (timer : Option ℕ) → Effect
+intermediate_system_heard Host s neighbour holding title timer =
+    then_does (answers_new (hears s Is title neighbour holding) neighbour) (λ t. idles (follows t timer))
+intermediate_system_heard Router s neighbour holding title timer = gives s (Notes (note.Ignored false) ∷ [])
 
 -- A redirect comes: an end system hears it from a router that it knows, and keeps in mind where the better hop to that address
 -- is (section 6.9); routers hear none.
-abbrev pub redirect_heard : Role → SystemState → Place → (holding : ℕ) → (to via : List ℕ) → Effect
-redirect_heard Host s place holding to via =
-    if is_router s.moment place.snpa s.facts then hears s Rd to (record { port = place.port; snpa = via }) holding
+abbrev pub redirect_heard : Role → SystemState → Neighbour → (holding : ℕ) → (to via : List ℕ) → Effect
+redirect_heard Host s neighbour holding to via =
+    if is_router s.moment neighbour.snpa s.facts then hears s Rd to (record { port = neighbour.port; snpa = via }) holding
     else gives s (Notes (note.Ignored true) ∷ [])
-redirect_heard Router s place holding to via = gives s (Notes (note.Ignored true) ∷ [])
+redirect_heard Router s neighbour holding to via = gives s (Notes (note.Ignored true) ∷ [])
 
 -- an ES-IS PDU comes from a place
-abbrev pub esis_heard : Role → SystemState → Place → (holding : ℕ) → EsisBody → (timer : Option ℕ) → Effect
-esis_heard role s place holding (Esh addresses) timer = end_system_heard role s place holding addresses
-esis_heard role s place holding (Ish title) timer = intermediate_system_heard role s place holding title timer
-esis_heard role s place holding (body.Rd to via title) timer = redirect_heard role s place holding to via
+abbrev pub esis_heard : Role → SystemState → Neighbour → (holding : ℕ) → EsisBody → (timer : Option ℕ) → Effect
+esis_heard role s neighbour holding (Esh addresses) timer = end_system_heard role s neighbour holding addresses
+esis_heard role s neighbour holding (Ish title) timer = intermediate_system_heard role s neighbour holding title timer
+esis_heard role s neighbour holding (body.Rd to via title) timer = redirect_heard role s neighbour holding to via
 
-abbrev pub esis_comes : SystemState → Place → EsisValue → Effect
-esis_comes s place v = esis_heard s.configuration.role s place v.holding v.body (suggested v.body v.options)
+abbrev pub esis_comes : SystemState → Neighbour → EsisValue → Effect
+esis_comes s neighbour v = esis_heard s.configuration.role s neighbour v.holding v.body (suggested v.body v.options)
 
 -- Forgetting.
 

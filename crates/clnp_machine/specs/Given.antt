@@ -1,5 +1,6 @@
 -- The outputs of a system of the code, and those of the model.
-use Rattle.std.specs.Prelude.{◌≡◌, ◌⊎◌, ℕ, true, false, List, [], ◌∷◌, ◌++◌, Option, None, Some}
+use Rattle.std.specs.Prelude.{◌≡◌, ◌⊎◌, ℕ, true, false, List, [], ◌++◌, Option, None, Some}
+use Rattle.std.specs.List.{AllZip}
 use Rattle.clnp_plan.specs.Nsap.declared.target.Target.{Target}
 use Rattle.clnp_plan.specs.ClnpViews.Extent.{Extent, seen}
 use Rattle.esis_pdus.specs.Grammar as esis
@@ -9,8 +10,7 @@ use Rattle.clnp_plan.specs.declared.output.Output.{Output}
 use Rattle.clnp_plan.specs.declared.output.Output.TheVariants.{Transmit, Note}
 use Rattle.clnp_plan.specs.declared.output.Sending.{Sending}
 use Rattle.clnp_machine.specs.Content.{Content, Labelled, Esis, Unlabelled}
-use Rattle.clnp_machine.specs.Unit as unit
-use Rattle.clnp_machine.specs.Unit.{Packet, wire, IsCarriable}
+use Rattle.clnp_machine.specs.Unit.{DataUnit, Packet, wire, IsCarriable}
 use Rattle.clnp_machine.specs.System as machine
 
 -- the data behind the header, if there are any
@@ -41,31 +41,8 @@ pub record IsSentForEsis (sending : Sending) (port : ℕ) (target : Target) (val
   pub first : sending.forwarded ≡ false
   pub pdu : esis.IsPdu value
 
--- an output of the code is one of the model
-abbrev pub Gives : ℕ → Output → machine.Output → Type 0
-Gives moment (Note note) (machine.Notes told) = note ≡ told
-Gives moment (Transmit sending) (machine.Transmits port target packet) = IsSentFor moment sending port target packet
-Gives moment (Transmit sending) (machine.SendsEsis port target value) = IsSentForEsis sending port target value
-Gives moment (Note note) (machine.Transmits port target packet) = ⊥
-Gives moment (Note note) (machine.SendsEsis port target value) = ⊥
-Gives moment (Transmit sending) (machine.Notes told) = ⊥
-
-abbrev pub GiveAll : ℕ → List Output → List machine.Output → Type 0
-GiveAll moment [] [] = Unit {0}
-GiveAll moment (output ∷ outputs) (other ∷ others) = Gives moment output other × GiveAll moment outputs others
-GiveAll moment [] (other ∷ others) = ⊥
-GiveAll moment (output ∷ outputs) [] = ⊥
-
--- outputs that are these ones of the model were appended
-pub record Appends (moment : ℕ) (before after : List Output) (others : List machine.Output) : Type 0 where
-  pub outputs : List Output
-  pub appended : after ≡ before ++ outputs
-  pub give_all : GiveAll moment outputs others
-
--- Frames that go on.
-
 -- a frame that came carries a packet of the unit
-abbrev pub CarriesUnit : Content → unit.Unit → Type 0
+abbrev pub CarriesUnit : Content → DataUnit → Type 0
 CarriesUnit (Labelled came following) u = came.unit ≡ u
 CarriesUnit (Esis value following) u = ⊥
 CarriesUnit (Unlabelled octets) u = ⊥
@@ -79,24 +56,29 @@ pub record IsSentOnFor (came : Content) (sending : Sending) (port : ℕ) (target
   pub carriable : IsCarriable packet
   pub unit : CarriesUnit came packet.unit
 
--- where a frame came, an output of the code is one of the model
-abbrev pub GivesFor : ℕ → Content → Output → machine.Output → Type 0
-GivesFor moment came (Note note) (machine.Notes told) = note ≡ told
-GivesFor moment came (Transmit sending) (machine.Transmits port target packet) =
+-- A frame goes out for a packet: of a unit that was made at this moment, or, where a frame came, of the unit of which it
+-- carries a packet.
+abbrev pub IsSent : ℕ → (came : Option Content) → Sending → (port : ℕ) → Target → Packet → Type 0
+IsSent moment None sending port target packet = IsSentFor moment sending port target packet
+IsSent moment (Some came) sending port target packet =
     IsSentFor moment sending port target packet ⊎ IsSentOnFor came sending port target packet
-GivesFor moment came (Transmit sending) (machine.SendsEsis port target value) = IsSentForEsis sending port target value
-GivesFor moment came (Note note) (machine.Transmits port target packet) = ⊥
-GivesFor moment came (Note note) (machine.SendsEsis port target value) = ⊥
-GivesFor moment came (Transmit sending) (machine.Notes told) = ⊥
 
-abbrev pub GiveAllFor : ℕ → Content → List Output → List machine.Output → Type 0
-GiveAllFor moment came [] [] = Unit {0}
-GiveAllFor moment came (output ∷ outputs) (other ∷ others) = GivesFor moment came output other × GiveAllFor moment came outputs others
-GiveAllFor moment came [] (other ∷ others) = ⊥
-GiveAllFor moment came (output ∷ outputs) [] = ⊥
+-- an output of the code is one of the model; where a frame came it may be one that goes on
+abbrev pub Gives : ℕ → (came : Option Content) → Output → machine.Output → Type 0
+Gives moment came (Note note) (machine.Notes told) = note ≡ told
+Gives moment came (Transmit sending) (machine.Transmits port target packet) =
+    IsSent moment came sending port target packet
+Gives moment came (Transmit sending) (machine.SendsEsis port target value) = IsSentForEsis sending port target value
+Gives moment came (Note note) (machine.Transmits port target packet) = ⊥
+Gives moment came (Note note) (machine.SendsEsis port target value) = ⊥
+Gives moment came (Transmit sending) (machine.Notes told) = ⊥
 
--- outputs that are these ones of the model, where a frame came, were appended
-pub record AppendsFor (moment : ℕ) (came : Content) (before after : List Output) (others : List machine.Output) : Type 0 where
+abbrev pub GiveAll : ℕ → (came : Option Content) → List Output → List machine.Output → Type 0
+GiveAll moment came outputs others = AllZip (Gives moment came) outputs others
+
+-- outputs that are these ones of the model were appended
+pub record Appends (moment : ℕ) (came : Option Content) (before after : List Output) (others : List machine.Output)
+    : Type 0 where
   pub outputs : List Output
   pub appended : after ≡ before ++ outputs
-  pub give_all : GiveAllFor moment came outputs others
+  pub give_all : GiveAll moment came outputs others

@@ -21,7 +21,7 @@ pub mod System
 pub mod Local
 pub mod Esis
 pub mod Step
-pub mod Steps
+pub mod EveryStep
 pub mod Told
 pub mod Given
 pub mod EditLaws

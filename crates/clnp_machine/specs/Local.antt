@@ -23,13 +23,13 @@ use Rattle.clnp_plan.specs.declared.note.Note.TheVariants as note
 use Rattle.clnp_plan.specs.declared.note.Why.TheVariants as why
 use Rattle.clnp_machine.specs.Identifiers as ids
 use Rattle.clnp_machine.specs.Identifiers.{Identifiers, NotDrawn, IsQuiet, IsBusy, not_drawn}
-use Rattle.clnp_machine.specs.Unit.{DeclaredAt, Unit, Packet, IsCarriable, value_of, wire, whole_packet}
+use Rattle.clnp_machine.specs.Unit.{DeclaredAt, DataUnit, Packet, IsCarriable, value_of, wire, whole_packet}
 use Rattle.clnp_machine.specs.Content.{Content, Labelled, frame_of}
 use Rattle.clnp_machine.specs.System.{SystemState, next_number, table_limits}
 
 -- it sends a unit that it made, or notes something
 pub data Action : Type 0 where
-  Sends : (unit : Unit) → Action
+  Sends : (unit : DataUnit) → Action
   Tells : (told : Note) → Action
 
 -- the state after it, and what it does, in order
@@ -50,7 +50,7 @@ abbrev pub and_then : Deed → (SystemState → Deed) → Deed
 and_then deed next = record { after = (next deed.after).after; actions = deed.actions ++ (next deed.after).actions }
 
 -- the units that are sent
-abbrev pub made_in : List Action → List Unit
+abbrev pub made_in : List Action → List DataUnit
 made_in [] = []
 made_in (Sends u ∷ actions) = u ∷ made_in actions
 made_in (Tells told ∷ actions) = made_in actions
@@ -75,9 +75,9 @@ identifier_for s segment = if segment then Some (ids.next s.identifiers) else No
 
 -- the unit of some octets that a system makes, with what its initial PDU says
 abbrev pub unit_with : SystemState → Kind → (from to octets : List ℕ) → (life : ℕ) → (report segment : Bool)
-    → (options : List Parameter) → Unit
+    → (options : List Parameter) → DataUnit
 unit_with s kind from to octets life report segment options =
-    let made : ℕ → Unit = λ total. record {
+    let made : ℕ → DataUnit = λ total. record {
       maker = DeclaredAt s.place;
       number = next_number s;
       made = s.moment;
@@ -95,11 +95,11 @@ unit_with s kind from to octets life report segment options =
     } in made (header_length (value_of (whole_packet (made 0))) + length octets)
 
 -- the unit that is made of what is asked for, where it isn't refused
-abbrev pub unit_of : SystemState → Kind → (from to octets : List ℕ) → Ask → Unit
+abbrev pub unit_of : SystemState → Kind → (from to octets : List ℕ) → Ask → DataUnit
 unit_of s kind from to octets ask = unit_with s kind from to octets ask.life ask.report ask.segment (parameters ask.options)
 
 -- how many octets the header of a unit has
-abbrev pub header_size : Unit → ℕ
+abbrev pub header_size : DataUnit → ℕ
 header_size u = header_length (value_of (whole_packet u))
 
 abbrev pub not_drawn_note : NotDrawn → Note
@@ -113,7 +113,7 @@ identifier_refusal s (Some identifier) = option_map not_drawn_note (not_drawn s.
 
 -- Why a unit isn't made, with the number that is noted beside it: the first of these that holds. Its source isn't one of
 -- the system's addresses; it has too many octets; its header has; no identifier can be drawn for it.
-abbrev pub refusal : SystemState → Unit → Option Note
+abbrev pub refusal : SystemState → DataUnit → Option Note
 refusal s u =
     if not (is_own s u.source) then Some (note.Refused why.NotMine 0)
     else if nat_lt most_octets (length u.octets) then Some (note.Refused why.TooLong (length u.octets))
@@ -125,7 +125,7 @@ abbrev pub with_use : SystemState → Option ℕ → Identifiers
 with_use s None = s.identifiers
 with_use s (Some identifier) = ids.after_use s.moment s.identifiers
 
-abbrev pub sent_note : Unit → Note
+abbrev pub sent_note : DataUnit → Note
 sent_note u = note.Sent u.kind u.number u.identifier u.source u.destination (length u.octets)
 
 -- the most echo requests that are to be answered
@@ -133,18 +133,18 @@ abbrev pub most_pending : ℕ
 most_pending = 8
 
 -- where they are too many, the oldest is given up
-abbrev pub within_most : List Unit → List Unit
+abbrev pub within_most : List DataUnit → List DataUnit
 within_most requests = if nat_lt most_pending (length requests) then drop 1 requests else requests
 
 -- the requests that are to be answered, once a unit was made
-abbrev pub with_made : Kind → List Unit → Unit → List Unit
+abbrev pub with_made : Kind → List DataUnit → DataUnit → List DataUnit
 with_made Erq requests u = within_most (requests ++ u ∷ [])
 with_made Dt requests u = requests
 with_made Er requests u = requests
 with_made Erp requests u = requests
 
 -- the unit is made, noted and sent
-abbrev pub makes : SystemState → Unit → Deed
+abbrev pub makes : SystemState → DataUnit → Deed
 makes s u =
     record {
       after = record s { count = u.number; identifiers = with_use s u.identifier; pending = with_made u.kind s.pending u };
@@ -152,7 +152,7 @@ makes s u =
     }
 
 -- a refused unit leaves nothing but its note
-abbrev pub unless_refused : Option Note → SystemState → Unit → Deed
+abbrev pub unless_refused : Option Note → SystemState → DataUnit → Deed
 unless_refused (Some refused) s u = tells s refused
 unless_refused None s u = makes s u
 
@@ -167,7 +167,7 @@ echo_ask s from to len report =
     record { life = s.configuration.settings.life; report = report; segment = needs_identifier from to len; options = [] }
 
 -- an echo request with these octets, as it is made where it isn't refused
-abbrev pub request_unit : SystemState → (from to octets : List ℕ) → Unit
+abbrev pub request_unit : SystemState → (from to octets : List ℕ) → DataUnit
 request_unit s from to octets = unit_of s Erq from to octets (echo_ask s from to (length octets) true)
 
 -- an echo request with these octets is asked for
@@ -183,7 +183,7 @@ replies s source destination octets =
 
 -- The report of a frame's discard (sections 6.10 and 7.9): from the system's title to the discarded PDU's source, with the
 -- discarded header, as it came, for its data, and the reason for its one option. It is never refused.
-abbrev pub report_unit : SystemState → (own frame : List ℕ) → (reason place : ℕ) → Unit
+abbrev pub report_unit : SystemState → (own frame : List ℕ) → (reason place : ℕ) → DataUnit
 report_unit s own frame reason place =
     unit_with s Er own (source_of frame) (header_of frame) s.configuration.settings.life false false (reason_option reason place ∷ [])
 
@@ -202,18 +202,18 @@ discard s frame reason place =
     and_then (tells s (note.Discard reason place)) (λ t. reports t (frame_of frame) reason place)
 
 -- whether an echo reply between two addresses with these data answers a request (RFC 1575)
-abbrev pub is_answer : (source destination octets : List ℕ) → Unit → Bool
+abbrev pub is_answer : (source destination octets : List ℕ) → DataUnit → Bool
 is_answer source destination octets request =
     bytes_eq request.destination source && (bytes_eq request.source destination && echoes request.octets octets)
 
 -- the requests without the first that an answer is for
-abbrev pub without_answered : (Unit → Bool) → List Unit → List Unit
+abbrev pub without_answered : (DataUnit → Bool) → List DataUnit → List DataUnit
 without_answered is_answered [] = []
 without_answered is_answered (request ∷ later) =
     if is_answered request then later else request ∷ without_answered is_answered later
 
 -- a reply is taken for the request that it answers, if there is one
-abbrev pub takes_reply : SystemState → (source destination octets : List ℕ) → Option Unit → Deed
+abbrev pub takes_reply : SystemState → (source destination octets : List ℕ) → Option DataUnit → Deed
 takes_reply s source destination octets None = tells s (note.Stray source destination)
 takes_reply s source destination octets (Some request) =
     tells (record s { pending = without_answered (is_answer source destination octets) s.pending })

@@ -2,7 +2,7 @@
 use Rattle.std.specs.Prelude.{◌≡◌, ℕ, ◌-◌, ◌⊎◌, true, false, List, ◌∷◌, ◌++◌, length, drop}
 use Rattle.std.specs.List.{AllByRecursion}
 use Rattle.clnp_plan.specs.PduHeader.declared.kind.Kind.TheVariants.{Erp}
-use Rattle.clnp_machine.specs.Unit.{Packet, Unit as DataUnit}
+use Rattle.clnp_machine.specs.Unit.{Packet, DataUnit}
 use Rattle.clnp_machine.specs.Content.{Labelled}
 use Rattle.clnp_machine.specs.System.{Input, AsksForEcho, FrameComes, IsRestarted}
 use Rattle.clnp_machine.specs.Local.{is_answer}

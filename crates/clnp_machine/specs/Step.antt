@@ -4,12 +4,11 @@ use Rattle.std.specs.Prelude.{ℕ, zero, suc, ◌+◌, ◌-◌, ◌==◌, ◌&&�
 use Rattle.std.specs.List.{flat_map}
 use Rattle.std.specs.Option.{option_or}
 use Rattle.std.specs.Str.{bytes_eq}
-use Rattle.clnp_plan.specs.Nsap.declared.target.Target.{Target}
 use Rattle.clnp_plan.specs.Nsap.declared.target.Target.TheVariants.{System, EndSystems}
 use Rattle.esis_pdus.specs.declared.pdu.EsisRefusal.{EsisRefusal}
 use Rattle.esis_pdus.specs.declared.pdu.EsisRefusal.TheVariants.{NotEsis, Broken}
 use Rattle.esis_pdus.specs.Rules.{why_refused}
-use Rattle.clnp_plan.specs.EsisTables.declared.fact.Place.{Place}
+use Rattle.clnp_plan.specs.EsisTables.declared.fact.Neighbour.{Neighbour}
 use Rattle.clnp_plan.specs.EsisTables.declared.fact.TableKind.TheVariants.{Es}
 use Rattle.clnp_plan.specs.EsisTables.NextHop as heard
 use Rattle.clnp_plan.specs.Forwarding.declared.route.Route.{Route}
@@ -28,48 +27,40 @@ use Rattle.clnp_plan.specs.declared.note.Note.{Note}
 use Rattle.clnp_plan.specs.declared.note.Note.TheVariants.{BadEsis, Discard, NotMine, Alien, Restart, Congest}
 use Rattle.clnp_plan.specs.PduHeader.Value.{SegmentationPart}
 use Rattle.clnp_machine.specs.Change.{Change, PortIsAt, changed}
-use Rattle.clnp_machine.specs.Unit.{Unit, Packet, segmentation_of, whole_packet, cut}
+use Rattle.clnp_machine.specs.Unit.{DataUnit, Packet, segmentation_of, whole_packet, cut}
 use Rattle.clnp_machine.specs.Content.{Content, Labelled, Esis, Unlabelled}
 use Rattle.clnp_machine.specs.System.{SystemState, Input, AsksToSend, AsksForEcho, FrameComes, MomentComes, IsRestarted, IsCongested, IsChanged, Output, Transmits, SendsEsis, Notes, Effect, idles, gives, then_does}
 use Rattle.clnp_machine.specs.Esis.{esis_comes, forgets, redirect, says_hello, tells_of_itself, title_of}
 use Rattle.clnp_machine.specs.Local.{Action, Sends, Tells, Deed, tells, made_in, is_own, make, discard, receive, requests_echo, tick, restarted}
+pub use Rattle.clnp_machine.specs.declared.way.Hop.{Hop}
+pub use Rattle.clnp_machine.specs.declared.way.Way.{Way}
 
 -- Where a system sends.
 
--- a port, and whom a frame is for on its subnetwork
-pub record Hop : Type 0 where
-  pub port : ℕ
-  pub target : Target
-
 -- where a place that was heard of is
-abbrev pub hop_to : Place → Hop
-hop_to place = record { port = place.port; target = System place.snpa }
+abbrev pub hop_to : Neighbour → Hop
+hop_to neighbour = record { port = neighbour.port; target = System neighbour.snpa }
 
 -- a host that knows of none asks all end systems (ISO 9542, section 6.5)
-abbrev pub host_hop : Option Place → Hop
+abbrev pub host_hop : Option Neighbour → Hop
 host_hop None = record { port = 0; target = EndSystems }
-host_hop (Some place) = hop_to place
+host_hop (Some neighbour) = hop_to neighbour
 
--- The next system on a router's way to an address: where it is, and its title where it is reached by a route.
-pub record Way : Type 0 where
-  pub place : Place
-  pub title : Option (List ℕ)
-
-abbrev pub to_neighbour : Place → Way
-to_neighbour place = record { place = place; title = None }
+abbrev pub to_neighbour : Neighbour → Way
+to_neighbour neighbour = record { neighbour = neighbour; title = None }
 
 abbrev pub by_route : Route → Way
-by_route route = record { place = record { port = route.port; snpa = route.snpa }; title = Some route.title }
+by_route route = record { neighbour = record { port = route.port; snpa = route.snpa }; title = Some route.title }
 
 -- A router sends to the end system of an address where it heard of it, else by the route with the most digits among those
 -- whose prefix covers the address (ISO 8473, section 6.5).
 abbrev pub way_of : SystemState → List ℕ → Option Way
 way_of s to =
-    option_or (option_map to_neighbour (heard.current_place s.moment Es to s.facts))
+    option_or (option_map to_neighbour (heard.current_neighbour s.moment Es to s.facts))
     (option_map by_route (longest to s.attached.routes))
 
 abbrev pub hop_by : Way → Hop
-hop_by way = hop_to way.place
+hop_by way = hop_to way.neighbour
 
 -- Where a packet for an address goes. A host sends it where it heard of: to the better hop of a redirect, to the end system, or
 -- to the router that it heard last. A router knows its neighbours and its routes.
@@ -90,22 +81,22 @@ abbrev pub no_way : List Output
 no_way = Notes (Discard (reason_code DestinationUnknown) 0) ∷ []
 
 -- a unit goes out on a port in frames that its subnetwork takes; by a port that isn't there is no way
-abbrev pub sent_on : Hop → Option PortConfig → Unit → List Output
+abbrev pub sent_on : Hop → Option PortConfig → DataUnit → List Output
 sent_on hop None u = no_way
 sent_on hop (Some port) u = transmissions hop (cut (whole_packet u) port.mtu)
 
 -- the first transmission of a unit
-abbrev pub first_sent : SystemState → Unit → Option Hop → List Output
+abbrev pub first_sent : SystemState → DataUnit → Option Hop → List Output
 first_sent s u None = no_way
 first_sent s u (Some hop) = sent_on hop (slice_get s.attached.ports hop.port) u
 
 -- A router sends nothing to itself, so there is no way for such a unit.
-abbrev pub is_to_itself : Role → SystemState → Unit → Bool
+abbrev pub is_to_itself : Role → SystemState → DataUnit → Bool
 is_to_itself Host s u = false
 is_to_itself Router s u = is_own s u.destination
 
 -- where a unit that a system made goes
-abbrev pub unit_hop : SystemState → Unit → Option Hop
+abbrev pub unit_hop : SystemState → DataUnit → Option Hop
 unit_hop s u = if is_to_itself s.configuration.role s u then None else next_hop s u.destination
 
 -- what a system gives out for what it does at its own addresses
@@ -175,9 +166,9 @@ abbrev pub discards : SystemState → Packet → (following : List ℕ) → (rea
 discards s p following reason = effect_of (discard s (Labelled p following) reason 0)
 
 -- whether something is at a place, as far as is known
-abbrev pub is_at : Place → Option Place → Bool
-is_at place None = false
-is_at place (Some known) = (known.port == place.port) && bytes_eq known.snpa place.snpa
+abbrev pub is_at : Neighbour → Option Neighbour → Bool
+is_at neighbour None = false
+is_at neighbour (Some known) = (known.port == neighbour.port) && bytes_eq known.snpa neighbour.snpa
 
 -- whether a PDU begins its unit, as one does that can't be segmented
 abbrev pub begins_unit : Option SegmentationPart → Bool
@@ -187,29 +178,31 @@ begins_unit (Some part) = part.offset == 0
 -- Whether its source is told of a better way where a packet goes on with these options: the packet begins its unit, it goes
 -- on by the port by which it came, and not towards a title of a source route, and its source is an end system that is known to
 -- be at the place from which it came. A router that wants its redirects held for no time sends none (ISO 9542, section 6.8).
-abbrev pub is_redirected : SystemState → (came : Place) → Packet → (options : List Parameter) → Way → Bool
+abbrev pub is_redirected : SystemState → (came : Neighbour) → Packet → (options : List Parameter) → Way → Bool
 is_redirected s came p options way =
     not (s.configuration.settings.rhold == 0)
-    && (way.place.port == came.port
+    && (way.neighbour.port == came.port
     && (is_none (target_of options)
-    && (begins_unit (segmentation_of p) && is_at came (heard.current_place s.moment Es p.unit.source s.facts))))
+    && (begins_unit (segmentation_of p) && is_at came (heard.current_neighbour s.moment Es p.unit.source s.facts))))
 
 -- the redirect that follows a packet that goes on, if any does
-abbrev pub redirects : SystemState → (came : Place) → Packet → (options : List Parameter) → Way → List Output
+abbrev pub redirects : SystemState → (came : Neighbour) → Packet → (options : List Parameter) → Way → List Output
 redirects s came p options way =
     if is_redirected s came p options way
-    then SendsEsis came.port (System came.snpa) (redirect s p.unit.destination way.place.snpa way.title) ∷ []
+    then SendsEsis came.port (System came.snpa) (redirect s p.unit.destination way.neighbour.snpa way.title) ∷ []
     else []
 
 -- the pieces of a packet go on, and a redirect may follow them; a packet that may not be cut is discarded (section 6.9)
-abbrev pub pieces_go_on : SystemState → (came : Place) → Packet → (following : List ℕ) → (options : List Parameter) → Way
+abbrev pub pieces_go_on : SystemState → (came : Neighbour) → Packet → (following : List ℕ) → (options : List Parameter)
+    → Way
     → Option (List Packet) → Effect
 pieces_go_on s came p following options way None = discards s p following (reason_code SegmentationNotPermitted)
 pieces_go_on s came p following options way (Some pieces) =
     gives s (transmissions (hop_by way) (Some pieces) ++ redirects s came p options way)
 
 -- A packet goes on by a port, in frames that its subnetwork takes, unless its lifetime ends on the way there (section 6.4).
-abbrev pub goes_on_by : SystemState → (came : Place) → Packet → (following : List ℕ) → (options : List Parameter) → Way
+abbrev pub goes_on_by : SystemState → (came : Neighbour) → Packet → (following : List ℕ) → (options : List Parameter)
+    → Way
     → Option PortConfig → Effect
 goes_on_by s came p following options way None = discards s p following (reason_code DestinationUnknown)
 goes_on_by s came p following options way (Some port) =
@@ -218,30 +211,32 @@ goes_on_by s came p following options way (Some port) =
 
 -- A packet goes on by its way; where there is none, the address is unknown. A complete source route allows no other system before
 -- the one that it leads to next (section 6.14).
-abbrev pub goes_on_way : SystemState → (came : Place) → Packet → (following : List ℕ) → (options : List Parameter) → Option Way → Effect
+abbrev pub goes_on_way : SystemState → (came : Neighbour) → Packet → (following : List ℕ) → (options : List Parameter)
+    → Option Way → Effect
 goes_on_way s came p following options None = discards s p following (no_way_to (target_of options))
 goes_on_way s came p following options (Some way) =
     if is_complete options && not (ends_at (towards p.unit.destination (target_of options)) way.title)
     then discards s p following (reason_code PathNotAcceptable)
-    else goes_on_by s came p following options way (slice_get s.attached.ports way.place.port)
+    else goes_on_by s came p following options way (slice_get s.attached.ports way.neighbour.port)
 
-abbrev pub goes_on_with : SystemState → (came : Place) → Packet → (following : List ℕ) → (options : List Parameter) → Effect
+abbrev pub goes_on_with : SystemState → (came : Neighbour) → Packet → (following : List ℕ) → (options : List Parameter)
+    → Effect
 goes_on_with s came p following options =
     goes_on_way s came p following options (way_of s (towards p.unit.destination (target_of options)))
 
 -- A packet goes on, unless its source route is complete and doesn't name the router here (section 6.14).
-abbrev pub goes_on : SystemState → (came : Place) → Packet → (following : List ℕ) → Effect
+abbrev pub goes_on : SystemState → (came : Neighbour) → Packet → (following : List ℕ) → Effect
 goes_on s came p following =
     if is_complete p.options && not (is_named s (target_of p.options)) then discards s p following (reason_code PathNotAcceptable)
     else goes_on_with s came p following (options_behind s p.options)
 
 -- a packet for another address: no host is asked to carry it on, a router forwards it (section 6.5)
-abbrev pub passes_by : Role → SystemState → (came : Place) → Packet → (following : List ℕ) → Effect
+abbrev pub passes_by : Role → SystemState → (came : Neighbour) → Packet → (following : List ℕ) → Effect
 passes_by Host s came p following = effect_of (tells s (NotMine p.unit.destination))
 passes_by Router s came p following = goes_on s came p following
 
 -- A packet comes from a place: its lifetime is over (section 6.4), or it is for the system (section 6.2), or for another address.
-abbrev pub packet_comes : SystemState → (came : Place) → Packet → (following : List ℕ) → Effect
+abbrev pub packet_comes : SystemState → (came : Neighbour) → Packet → (following : List ℕ) → Effect
 packet_comes s came p following =
     if p.lifetime == 0 then discards s p following (reason_code LifetimeExpiredInTransit)
     else if is_own s p.unit.destination then effect_of (receive s p following)
@@ -271,16 +266,16 @@ is_asked_for Host s to_group p = to_group && (not (p.lifetime == 0) && is_own s 
 is_asked_for Router s to_group p = false
 
 -- then it tells the sender of itself
-abbrev pub responds : SystemState → Place → (to_group : Bool) → Packet → Effect
-responds s place to_group p =
-    if is_asked_for s.configuration.role s to_group p then tells_of_itself s place.port place.snpa else idles s
+abbrev pub responds : SystemState → Neighbour → (to_group : Bool) → Packet → Effect
+responds s neighbour to_group p =
+    if is_asked_for s.configuration.role s to_group p then tells_of_itself s neighbour.port neighbour.snpa else idles s
 
 -- a frame comes from a place, to a group of systems or to this one alone
-abbrev pub content_comes : SystemState → Place → (to_group : Bool) → Content → Effect
-content_comes s place to_group (Labelled packet following) =
-    then_does (packet_comes s place packet following) (λ t. responds t place to_group packet)
-content_comes s place to_group (Esis value following) = esis_comes s place value
-content_comes s place to_group (Unlabelled octets) = effect_of (octets_come s octets)
+abbrev pub content_comes : SystemState → Neighbour → (to_group : Bool) → Content → Effect
+content_comes s neighbour to_group (Labelled packet following) =
+    then_does (packet_comes s neighbour packet following) (λ t. responds t neighbour to_group packet)
+content_comes s neighbour to_group (Esis value following) = esis_comes s neighbour value
+content_comes s neighbour to_group (Unlabelled octets) = effect_of (octets_come s octets)
 
 -- a moment comes: buffers end, what was heard is forgotten, and a hello may be due
 abbrev pub moment_comes : SystemState → ℕ → Effect

@@ -11,7 +11,7 @@ use Rattle.clnp_plan.specs.declared.ask.Ask.{Ask}
 use Rattle.clnp_plan.specs.declared.note.Note.{Note}
 use Rattle.clnp_machine.specs.Attachment.{Attachment, as_declared}
 use Rattle.clnp_machine.specs.Change.{Change}
-use Rattle.clnp_machine.specs.Unit.{Unit, Packet}
+use Rattle.clnp_machine.specs.Unit.{DataUnit, Packet}
 use Rattle.clnp_machine.specs.Content.{Content}
 use Rattle.clnp_machine.specs.Identifiers.{Identifiers, opening}
 
@@ -30,7 +30,7 @@ pub record SystemState : Type 0 where
   -- the segments of units that aren't whole yet
   pub buffers : List (Buffer Packet)
   -- the echo requests that it made and that are still to be answered, the oldest first (RFC 1575)
-  pub pending : List Unit
+  pub pending : List DataUnit
   -- what it heard of other systems since its last restart, in order (ISO 9542, section 6.3)
   pub facts : List Fact
   -- its configuration timer: how often it says hello, in seconds; 0 is never (ISO 9542, section 6.1.1)
@@ -91,7 +91,7 @@ pub data Output : Type 0 where
 pub record Effect : Type 0 where
   pub after : SystemState
   pub outputs : List Output
-  pub units : List Unit
+  pub units : List DataUnit
 
 -- nothing is done
 abbrev pub idles : SystemState → Effect

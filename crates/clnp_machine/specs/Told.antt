@@ -8,7 +8,7 @@ use Rattle.reassembly.specs.Buffer.{Answer, Buffer, Interference, opened_by}
 use Rattle.clnp_plan.specs.declared.note.Note.{Note}
 use Rattle.clnp_plan.specs.declared.note.Note.TheVariants as note
 use Rattle.clnp_machine.specs.Identifiers.{Identifiers, last_use, next}
-use Rattle.clnp_machine.specs.Unit.{Packet, Unit as DataUnit}
+use Rattle.clnp_machine.specs.Unit.{Packet, DataUnit}
 use Rattle.clnp_machine.specs.Content.{Unlabelled}
 use Rattle.clnp_machine.specs.System.{SystemState, Input, FrameComes}
 use Rattle.clnp_machine.specs.Local.{Action, Deed, Sends, Tells, header_size, identifier_refusal, is_own, made_in, most_octets}

@@ -14,7 +14,7 @@ pub data Maker : Type 0 where
   Outside : Maker
 
 -- a data unit as its maker made it (ISO 8473, sections 6.1 and 6.7)
-pub record Unit : Type 0 where
+pub record DataUnit : Type 0 where
   pub maker : Maker
   -- among its maker's units, from 1
   pub number : ℕ
@@ -39,7 +39,7 @@ pub record Unit : Type 0 where
 
 -- a range of a unit's positions, on its way
 pub record Packet : Type 0 where
-  pub unit : Unit
+  pub unit : DataUnit
   pub offset : ℕ
   pub length : ℕ
   pub lifetime : ℕ
@@ -81,7 +81,7 @@ abbrev pub wire : Packet → List ℕ
 wire p = spelling (value_of p)
 
 -- the whole of a unit, as its maker sends it
-abbrev pub whole_packet : Unit → Packet
+abbrev pub whole_packet : DataUnit → Packet
 whole_packet u =
     record { unit = u; offset = 0; length = length u.octets; lifetime = u.lifetime; options = u.options; hops = 0 }
 

@@ -13,8 +13,10 @@ use crate::forwarding::laws;
 /// A system is attached as it should be at its start, and a fair change leaves it so: each port has a transit of at least 1 and
 /// takes at least 512 octets, each route leads out of a port that is there, and no two routes have one prefix.
 pub fn attachments_stay_sound()
-    ensures declared { (system : SystemConfiguration) → IsSystem system → IsAddressed system → IsAttached (as_declared system) }
-    ensures changed { (a : Attachment) (change : Change) → IsAttached a → ChangesFairly a change → IsAttached (changed change a) }
+    ensures declared { (system : SystemConfiguration) → IsSystem system → IsAddressed system
+        → IsAttached (as_declared system) }
+    ensures changed { (a : Attachment) (change : Change) → IsAttached a → ChangesFairly a change
+        → IsAttached (changed change a) }
 {
     // Its clauses: no two routes have one prefix after one is set and after one is gone.
     laws::changed_routes_differ();
@@ -37,12 +39,16 @@ pub fn each_port_is_where_it_is_put()
 /// Changes of ports leave the routes, and changes of routes the ports. A route that is set is the one of its prefix, a prefix
 /// whose route is gone has none, and each other prefix has the route that it had.
 pub fn each_prefix_goes_where_it_is_set()
-    ensures by_ports { (a : Attachment) (number mtu : ℕ) (port : PortConfig) → ((changed (PortIsAt number port) a).routes ≡ a.routes)
+    ensures by_ports { (a : Attachment) (number mtu : ℕ) (port : PortConfig)
+        → ((changed (PortIsAt number port) a).routes ≡ a.routes)
         × ((changed (PortTakes number mtu) a).routes ≡ a.routes) }
-    ensures by_routes { (a : Attachment) (route : Route) (prefix : List ℕ) → ((changed (RouteIsSet route) a).ports ≡ a.ports)
+    ensures by_routes { (a : Attachment) (route : Route) (prefix : List ℕ)
+        → ((changed (RouteIsSet route) a).ports ≡ a.ports)
         × ((changed (RouteIsGone prefix) a).ports ≡ a.ports) }
-    ensures set { (a : Attachment) (route : Route) → find (has_prefix route.prefix) (changed (RouteIsSet route) a).routes ≡ Some route }
-    ensures gone { (a : Attachment) (prefix : List ℕ) → find (has_prefix prefix) (changed (RouteIsGone prefix) a).routes ≡ None }
+    ensures set { (a : Attachment) (route : Route)
+        → find (has_prefix route.prefix) (changed (RouteIsSet route) a).routes ≡ Some route }
+    ensures gone { (a : Attachment) (prefix : List ℕ)
+        → find (has_prefix prefix) (changed (RouteIsGone prefix) a).routes ≡ None }
     ensures others_set { (a : Attachment) (route : Route) (other : List ℕ) → route.prefix ≢ other
         → find (has_prefix other) (changed (RouteIsSet route) a).routes ≡ find (has_prefix other) a.routes }
     ensures others_gone { (a : Attachment) (prefix other : List ℕ) → prefix ≢ other

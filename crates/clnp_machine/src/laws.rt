@@ -26,9 +26,9 @@ ghost use Rattle.reassembly.specs.Arrival.{Arrival};
 ghost use Rattle.reassembly.specs.Buffer as buffer;
 ghost use Rattle.reassembly.specs.Buffer.{Buffer, buffer_of, clashes, due, first_carried, held, without};
 ghost use Rattle.clnp_plan.specs.Configuration.{IsAddressedRoute, IsPort, IsSystem};
-ghost use Rattle.clnp_plan.specs.EsisTables.declared.fact.Place.{Place};
+ghost use Rattle.clnp_plan.specs.EsisTables.declared.fact.Neighbour.{Neighbour};
 ghost use Rattle.clnp_plan.specs.EsisTables.declared.fact.TableKind.TheVariants.{Es, Rd};
-ghost use Rattle.clnp_plan.specs.EsisTables.NextHop.{current_place, last_router};
+ghost use Rattle.clnp_plan.specs.EsisTables.NextHop.{current_neighbour, last_router};
 ghost use Rattle.clnp_plan.specs.EsisTables.Gone.{gone};
 ghost use Rattle.clnp_plan.specs.declared.ask.Ask.{Ask};
 ghost use Rattle.clnp_plan.specs.declared.config.Limits.{Limits};
@@ -38,7 +38,7 @@ ghost use Rattle.clnp_plan.specs.declared.note.Note.TheVariants.{Crowded, Discar
 ghost use Rattle.clnp_machine.specs.Attachment.{IsAttached};
 ghost use Rattle.clnp_machine.specs.Change.{Change, PortIsAt, changed};
 ghost use Rattle.clnp_machine.specs.Identifiers.{Identifiers, not_drawn};
-ghost use Rattle.clnp_machine.specs.Unit.{Unit, Packet, IsCarriable, cut, value_of, whole_packet, wire};
+ghost use Rattle.clnp_machine.specs.Unit.{DataUnit, Packet, IsCarriable, cut, value_of, whole_packet, wire};
 ghost use Rattle.clnp_machine.specs.Content.{Content, Esis, IsCarried, Labelled, Unlabelled, content_of, frame_of};
 ghost use Rattle.clnp_machine.specs.Esis.{esis_comes, forgets, gone_note, hello_everywhere, own_hello, redirect, says_hello, tells_new, tells_of_itself, title_of};
 ghost use Rattle.clnp_machine.specs.Local.{Action, Tells, and_then, at_moment, discard, discard_first, echo_ask, gives_up, header_size, is_all, is_replied, made_in, make, makes, receive, refusal, report_unit, takes_in, tells, tick, unit_of};
@@ -51,7 +51,7 @@ ghost use Rattle.clnp_machine.specs.Due.{FollowsTimer, IsAskedByGroup, IsHelloDu
 ghost use Rattle.clnp_machine.specs.Ports.{ComesByPort, GoesByPort};
 ghost use Rattle.clnp_machine.specs.Requests.{AnswersNone, AnswersNothing, AnswersOldest, StayUnlessAnswered, newest};
 ghost use Rattle.clnp_machine.specs.Ways.{BeginsWithDiscard, CallsForRedirect, IsAllOfItsUnit, IsAllowedWay, IsDiscardedFor, IsFirstOrGoesOn, IsOnRoute, IsOwnWhereFirst, SendsItsWay, aim_of};
-ghost use Rattle.clnp_machine.specs.Steps.{AreCarriable, AreNumbered, IsAtMostReportOf, IsFairChange, IsMadeFor, IsNoChange, IsNoRestart, IsRedirectFor, KeepsAsOffered, KeepsNextHops, KnowsAddresses, ReportsOn, RestartsNothing, WasPendingOrMade, BreaksNoEsisRule, BreaksNoRule, CarriesOneEsisValue, CarriesOnePacket, IsAtMostItsHello, IsAtMostOneTo, IsDeed, IsEffect, IsFair, IsForOwn, GoesOnOrIsReported, IsFresh, IsRangeOf, IsWithinBudget, NotesOnly, OnlyHellos, SendsCarriable, SendsEsisPdus, SendsItsOwn, SendsRangesOrGoesOn, StaysItself, WasKeptOrComes, attached_after, moment_after, segments_in, sends_esis, sends_frame};
+ghost use Rattle.clnp_machine.specs.EveryStep.{AreCarriable, AreNumbered, IsAtMostReportOf, IsFairChange, IsMadeFor, IsNoChange, IsNoRestart, IsRedirectFor, KeepsAsOffered, KeepsNextHops, KnowsAddresses, ReportsOn, RestartsNothing, WasPendingOrMade, BreaksNoEsisRule, BreaksNoRule, CarriesOneEsisValue, CarriesOnePacket, IsAtMostItsHello, IsAtMostOneTo, IsDeed, IsEffect, IsFair, IsForOwn, GoesOnOrIsReported, IsFresh, IsRangeOf, IsWithinBudget, NotesOnly, OnlyHellos, SendsCarriable, SendsEsisPdus, SendsItsOwn, SendsRangesOrGoesOn, StaysItself, WasKeptOrComes, attached_after, moment_after, segments_in, sends_esis, sends_frame};
 ghost use Rattle.clnp_machine.specs.Told.{IsAllowed, IsRefusal, IsToldBy, LeavesRefused, MayBeDrawn, NoteIsQuiet, NotesNoRule, SpellsPdus, TellsNoInterference, TellsOnly, WasThereOrTakes};
 
 use crate::attaching;
@@ -62,8 +62,10 @@ pub fn a_system_stays_itself()
     ensures itself { (s : SystemState) (input : Input) → StaysItself s (step s input).after }
     ensures moment { (s : SystemState) (input : Input) → (step s input).after.moment ≡ moment_after s input }
     ensures attached { (s : SystemState) (input : Input) → (step s input).after.attached ≡ attached_after s input }
-    ensures ports { (s : SystemState) (input : Input) → length (step s input).after.attached.ports ≡ length s.attached.ports }
-    ensures soundly { (s : SystemState) (input : Input) → IsFairChange s input → IsAttached s.attached → IsAttached (step s input).after.attached }
+    ensures ports { (s : SystemState) (input : Input)
+        → length (step s input).after.attached.ports ≡ length s.attached.ports }
+    ensures soundly { (s : SystemState) (input : Input) → IsFairChange s input → IsAttached s.attached
+        → IsAttached (step s input).after.attached }
 {
     attaching::attachments_stay_sound();
 }
@@ -73,8 +75,10 @@ pub fn a_system_stays_itself()
 pub fn changes_leave_the_rest()
     ensures rest { (s : SystemState) (change : Change) → let after = (step s (IsChanged change)).after in
         after ≡ record s { attached = changed change s.attached; next_hello = after.next_hello } }
-    ensures moved { (s : SystemState) (number : ℕ) (port : PortConfig) → (step s (IsChanged (PortIsAt number port))).after.next_hello ≡ s.moment }
-    ensures unmoved { (s : SystemState) (change : Change) → ((number : ℕ) (port : PortConfig) → change ≢ PortIsAt number port)
+    ensures moved { (s : SystemState) (number : ℕ) (port : PortConfig)
+        → (step s (IsChanged (PortIsAt number port))).after.next_hello ≡ s.moment }
+    ensures unmoved { (s : SystemState) (change : Change)
+        → ((number : ℕ) (port : PortConfig) → change ≢ PortIsAt number port)
         → (step s (IsChanged change)).after.next_hello ≡ s.next_hello }
     ensures outputs { (s : SystemState) (change : Change) → (step s (IsChanged change)).outputs ≡ [] }
     ensures units { (s : SystemState) (change : Change) → (step s (IsChanged change)).units ≡ [] }
@@ -83,10 +87,13 @@ pub fn changes_leave_the_rest()
 /// Whatever a system does at its addresses, it stays the system that it is, at its moment and with what
 /// it heard, and the units that it makes are its own and new.
 pub fn deeds_are_of_their_moment()
-    ensures make { (s : SystemState) (kind : Kind) (from to octets : List ℕ) (ask : Ask) → IsDeed s (make s kind from to octets ask) }
+    ensures make { (s : SystemState) (kind : Kind) (from to octets : List ℕ) (ask : Ask)
+        → IsDeed s (make s kind from to octets ask) }
     ensures receive { (s : SystemState) (p : Packet) (following : List ℕ) → IsDeed s (receive s p following) }
-    ensures discard { (s : SystemState) (content : Content) (reason place : ℕ) → IsDeed s (discard s content reason place) }
-    ensures packet { (s : SystemState) (came : Place) (p : Packet) (following : List ℕ) → IsEffect s (packet_comes s came p following) }
+    ensures discard { (s : SystemState) (content : Content) (reason place : ℕ)
+        → IsDeed s (discard s content reason place) }
+    ensures packet { (s : SystemState) (came : Neighbour) (p : Packet) (following : List ℕ)
+        → IsEffect s (packet_comes s came p following) }
     ensures octets { (s : SystemState) (octets : List ℕ) → IsDeed s (octets_come s octets) }
     ensures tick { (s : SystemState) (now : ℕ) → IsDeed (at_moment now s) (tick s now) }
 {}
@@ -94,9 +101,11 @@ pub fn deeds_are_of_their_moment()
 /// What a system says and hears of others leaves all else of it as it is; it makes no unit and sends
 /// no packet.
 pub fn hellos_leave_the_rest()
-    ensures comes { (s : SystemState) (place : Place) (value : EsisValue) → OnlyHellos s (esis_comes s place value) }
+    ensures comes { (s : SystemState) (neighbour : Neighbour) (value : EsisValue)
+        → OnlyHellos s (esis_comes s neighbour value) }
     ensures tells { (s : SystemState) (port : ℕ) (snpa : List ℕ) → OnlyHellos s (tells_of_itself s port snpa) }
-    ensures responds { (s : SystemState) (place : Place) (to_group : Bool) (p : Packet) → OnlyHellos s (responds s place to_group p) }
+    ensures responds { (s : SystemState) (neighbour : Neighbour) (to_group : Bool) (p : Packet)
+        → OnlyHellos s (responds s neighbour to_group p) }
     ensures forgets { (s : SystemState) (before : ℕ) → OnlyHellos s (forgets before s) }
     ensures says_hello { (s : SystemState) → OnlyHellos s (says_hello s) }
 {}
@@ -105,7 +114,8 @@ pub fn hellos_leave_the_rest()
 /// their initial PDU carries all of their data; they are numbered one behind another; and one that
 /// isn't asked for is an error report or an echo reply.
 pub fn new_units_are_fresh()
-    ensures fresh { (s : SystemState) (input : Input) → AllByRecursion (IsFresh s (moment_after s input)) (step s input).units }
+    ensures fresh { (s : SystemState) (input : Input)
+        → AllByRecursion (IsFresh s (moment_after s input)) (step s input).units }
     ensures numbered { (s : SystemState) (input : Input) → AreNumbered s.count (step s input).units }
     ensures asked { (s : SystemState) (input : Input) → AllByRecursion (IsMadeFor input) (step s input).units }
 {}
@@ -123,7 +133,7 @@ pub fn ranges_of_units_are_sent()
 /// lower by the transit of the port by which it goes on, at least by one; or the one that came doesn't
 /// go on, and what is sent is at most the report of its discard.
 pub fn forwarding_costs_lifetime()
-    ensures { (s : SystemState) (came : Place) (p : Packet) (following : List ℕ)
+    ensures { (s : SystemState) (came : Neighbour) (p : Packet) (following : List ℕ)
         → GoesOnOrIsReported s p (wire p ++ following) (passes_by s.configuration.role s came p following) }
 {
     laws_of_edits();
@@ -146,7 +156,8 @@ pub fn first_transmissions_are_its_own()
 /// The header of a packet is as long as that of its unit's initial PDU, however often it was forwarded: a
 /// router changes the values of options, and never their lengths.
 pub fn headers_keep_their_length()
-    ensures { (units : List Unit) (p : Packet) → IsRangeOf units p → header_length (value_of p) ≡ header_size p.unit }
+    ensures { (units : List DataUnit) (p : Packet) → IsRangeOf units p
+        → header_length (value_of p) ≡ header_size p.unit }
 {
     laws_of_edits();
 }
@@ -154,7 +165,8 @@ pub fn headers_keep_their_length()
 /// What routers make of options leaves the value of each option but source routes, recordings and qualities of service as it was; and
 /// what a router makes of those of a packet is made by such edits.
 pub fn edits_change_three_options()
-    ensures others { (edits : List Edit) (code : ℕ) → code ≢ 0xc8 → code ≢ 0xcb → code ≢ 0xc3 → (options : List Parameter)
+    ensures others { (edits : List Edit) (code : ℕ) → code ≢ 0xc8 → code ≢ 0xcb → code ≢ 0xc3
+        → (options : List Parameter)
         → option_value code (with_edits edits options) ≡ option_value code options }
     ensures behind { (s : SystemState) (options : List Parameter) → AreEdited options (options_behind s options) }
 {}
@@ -162,7 +174,8 @@ pub fn edits_change_three_options()
 /// The PDU of a packet that goes on has the value of the one that came, but for its lifetime and options;
 /// and where a router has a title, a PDU can carry it.
 pub fn what_goes_on_has_its_value()
-    ensures value { (s : SystemState) (p : Packet) (loss : ℕ) → IsCarriable p → value_of (forwarded p loss (options_behind s p.options))
+    ensures value { (s : SystemState) (p : Packet) (loss : ℕ) → IsCarriable p
+        → value_of (forwarded p loss (options_behind s p.options))
         ≡ with_options (options_behind s p.options) (with_lifetime (p.lifetime - loss) (value_of p)) }
     ensures carriable { (s : SystemState) (p : Packet) (loss : ℕ) → IsAddress (title_of s) → IsCarriable p
         → IsCarriable (forwarded p loss (options_behind s p.options)) }
@@ -173,21 +186,26 @@ pub fn what_goes_on_has_its_value()
 /// PDUs can carry each packet that is sent in a step of a system of sound configuration with addresses, whose ports take frames that
 /// are long enough, where what comes to it is fair, and the segments that it keeps can be carried.
 pub fn what_is_sent_is_carriable()
-    ensures sent { (s : SystemState) (input : Input) → IsSystem s.configuration → AllByRecursion IsPort s.attached.ports → IsFair input
-        → All IsAddress s.configuration.addresses → KeepsAsOffered s → AllByRecursion SendsCarriable (step s input).outputs }
-    ensures kept { (s : SystemState) (input : Input) → IsFair input → KeepsAsOffered s → KeepsAsOffered (step s input).after }
+    ensures sent { (s : SystemState) (input : Input) → IsSystem s.configuration → AllByRecursion IsPort s.attached.ports
+        → IsFair input
+        → All IsAddress s.configuration.addresses → KeepsAsOffered s
+        → AllByRecursion SendsCarriable (step s input).outputs }
+    ensures kept { (s : SystemState) (input : Input) → IsFair input → KeepsAsOffered s
+        → KeepsAsOffered (step s input).after }
 {
     laws_of_edits();
 }
 
 /// All that a system sends goes by a port that is there, where what comes in a frame came by one.
 pub fn what_is_sent_goes_by_a_port()
-    ensures { (s : SystemState) (input : Input) → ComesByPort s input → AllByRecursion (GoesByPort s) (step s input).outputs }
+    ensures { (s : SystemState) (input : Input) → ComesByPort s input
+        → AllByRecursion (GoesByPort s) (step s input).outputs }
 {}
 
 /// Behind a router no source route leads to the router itself, wherever in the route its title stands.
 pub fn a_source_route_leads_elsewhere()
-    ensures { (s : SystemState) (p : Packet) → IsCarriable p → (title : List ℕ) → target_of (options_behind s p.options) ≡ Some title
+    ensures { (s : SystemState) (p : Packet) → IsCarriable p → (title : List ℕ)
+        → target_of (options_behind s p.options) ≡ Some title
         → title ≢ title_of s }
 {
     clnp_plan::clnp_options::laws::edits_leave_the_source_route();
@@ -199,7 +217,8 @@ pub fn a_source_route_leads_elsewhere()
 /// destination, or it is discarded. With a complete source route it goes on only where it was led to this router, and to no
 /// other system before the next one of its route (ISO 8473, section 6.14).
 pub fn packets_go_their_way()
-    ensures { (s : SystemState) (came : Place) (p : Packet) (following : List ℕ) → let outputs = (passes_by Router s came p following).outputs in
+    ensures { (s : SystemState) (came : Neighbour) (p : Packet) (following : List ℕ)
+        → let outputs = (passes_by Router s came p following).outputs in
         AllByRecursion (SendsItsWay s p) outputs ⊎ BeginsWithDiscard outputs }
 {}
 
@@ -208,25 +227,32 @@ pub fn packets_go_their_way()
 /// of it (`not_next`); no way is known to its destination (`unknown`), or to the next title of its route (`unknown_in_route`); it
 /// may not be cut (`uncut`). Each with the octet of its reason (ISO 8473, section 7.9.5).
 pub fn discards_have_their_reasons()
-    ensures over { (s : SystemState) (came : Place) (p : Packet) (following : List ℕ) → p.lifetime ≡ 0
+    ensures over { (s : SystemState) (came : Neighbour) (p : Packet) (following : List ℕ) → p.lifetime ≡ 0
         → IsDiscardedFor 0xa0 s p following (packet_comes s came p following) }
-    ensures off_route { (s : SystemState) (came : Place) (p : Packet) (following : List ℕ) → is_complete p.options ≡ true
-        → ¬ (target_of p.options ≡ Some (title_of s)) → IsDiscardedFor 0x93 s p following (passes_by Router s came p following) }
-    ensures unknown { (s : SystemState) (came : Place) (p : Packet) (following : List ℕ) → IsOnRoute s p → way_of s (aim_of s p) ≡ None
-        → target_of (options_behind s p.options) ≡ None → IsDiscardedFor 0x81 s p following (passes_by Router s came p following) }
-    ensures unknown_in_route { (s : SystemState) (came : Place) (p : Packet) (following : List ℕ) → IsOnRoute s p
+    ensures off_route { (s : SystemState) (came : Neighbour) (p : Packet) (following : List ℕ)
+        → is_complete p.options ≡ true
+        → ¬ (target_of p.options ≡ Some (title_of s))
+        → IsDiscardedFor 0x93 s p following (passes_by Router s came p following) }
+    ensures unknown { (s : SystemState) (came : Neighbour) (p : Packet) (following : List ℕ) → IsOnRoute s p
+        → way_of s (aim_of s p) ≡ None
+        → target_of (options_behind s p.options) ≡ None
+        → IsDiscardedFor 0x81 s p following (passes_by Router s came p following) }
+    ensures unknown_in_route { (s : SystemState) (came : Neighbour) (p : Packet) (following : List ℕ) → IsOnRoute s p
         → way_of s (aim_of s p) ≡ None → (title : List ℕ) → target_of (options_behind s p.options) ≡ Some title
         → IsDiscardedFor 0x92 s p following (passes_by Router s came p following) }
-    ensures not_next { (s : SystemState) (came : Place) (p : Packet) (following : List ℕ) → IsOnRoute s p → (way : Way)
-        → way_of s (aim_of s p) ≡ Some way → is_complete (options_behind s p.options) ≡ true → (title : List ℕ) → way.title ≡ Some title
+    ensures not_next { (s : SystemState) (came : Neighbour) (p : Packet) (following : List ℕ) → IsOnRoute s p
+        → (way : Way)
+        → way_of s (aim_of s p) ≡ Some way → is_complete (options_behind s p.options) ≡ true → (title : List ℕ)
+        → way.title ≡ Some title
         → title ≢ aim_of s p → IsDiscardedFor 0x93 s p following (passes_by Router s came p following) }
-    ensures transit { (s : SystemState) (came : Place) (p : Packet) (following : List ℕ) → IsOnRoute s p → (way : Way)
+    ensures transit { (s : SystemState) (came : Neighbour) (p : Packet) (following : List ℕ) → IsOnRoute s p
+        → (way : Way)
         → way_of s (aim_of s p) ≡ Some way → IsAllowedWay s p way → (port : PortConfig)
-        → slice_get s.attached.ports way.place.port ≡ Some port → p.lifetime ≤ loss_at port
+        → slice_get s.attached.ports way.neighbour.port ≡ Some port → p.lifetime ≤ loss_at port
         → IsDiscardedFor 0xa0 s p following (passes_by Router s came p following) }
-    ensures uncut { (s : SystemState) (came : Place) (p : Packet) (following : List ℕ) → IsOnRoute s p → (way : Way)
+    ensures uncut { (s : SystemState) (came : Neighbour) (p : Packet) (following : List ℕ) → IsOnRoute s p → (way : Way)
         → way_of s (aim_of s p) ≡ Some way → IsAllowedWay s p way → (port : PortConfig)
-        → slice_get s.attached.ports way.place.port ≡ Some port → loss_at port < p.lifetime
+        → slice_get s.attached.ports way.neighbour.port ≡ Some port → loss_at port < p.lifetime
         → cut (forwarded p (loss_at port) (options_behind s p.options)) port.mtu ≡ None
         → IsDiscardedFor 0x05 s p following (passes_by Router s came p following) }
 {}
@@ -244,7 +270,7 @@ pub fn discards_at_the_own_addresses_have_their_reasons()
     ensures many { (s : SystemState) (frame : Content) (arrival : Arrival Packet) (kept : List (Buffer Packet)) (segments : ℕ)
         → takes_in s frame arrival kept (buffer.Many segments) ≡ and_then (tells s (Many segments)) (λ t. discard t frame 0x03 0) }
     ensures expired { (s : SystemState) (p : Packet) → discard_first s (Some p) ≡ discard s (Labelled p []) 0xa1 0 }
-    ensures unknown { (s : SystemState) (u : Unit) → first_sent s u None ≡ Notes (Discard 0x81 0) ∷ [] }
+    ensures unknown { (s : SystemState) (u : DataUnit) → first_sent s u None ≡ Notes (Discard 0x81 0) ∷ [] }
     ensures uncut { (hop : Hop) → transmissions hop None ≡ Notes (Discard 0x05 0) ∷ [] }
 {}
 
@@ -252,22 +278,25 @@ pub fn discards_at_the_own_addresses_have_their_reasons()
 /// intermediate system that it heard last, else to all end systems on its first port (ISO 9542, section 6.5). A router
 /// sends to the end system of the address, else by the longest route that covers it.
 pub fn next_hops_are_what_is_known()
-    ensures redirected { (s : SystemState) (to : List ℕ) (place : Place) → s.configuration.role ≡ Host
-        → current_place s.moment Rd to s.facts ≡ Some place → next_hop s to ≡ Some (hop_to place) }
-    ensures end_system { (s : SystemState) (to : List ℕ) (place : Place) → s.configuration.role ≡ Host
-        → current_place s.moment Rd to s.facts ≡ None → current_place s.moment Es to s.facts ≡ Some place → next_hop s to ≡ Some (hop_to place) }
-    ensures intermediate_system { (s : SystemState) (to : List ℕ) (place : Place) → s.configuration.role ≡ Host
-        → current_place s.moment Rd to s.facts ≡ None → current_place s.moment Es to s.facts ≡ None
-        → last_router s.moment s.facts ≡ Some place → next_hop s to ≡ Some (hop_to place) }
-    ensures everyone { (s : SystemState) (to : List ℕ) → s.configuration.role ≡ Host → current_place s.moment Rd to s.facts ≡ None
-        → current_place s.moment Es to s.facts ≡ None → last_router s.moment s.facts ≡ None
+    ensures redirected { (s : SystemState) (to : List ℕ) (neighbour : Neighbour) → s.configuration.role ≡ Host
+        → current_neighbour s.moment Rd to s.facts ≡ Some neighbour → next_hop s to ≡ Some (hop_to neighbour) }
+    ensures end_system { (s : SystemState) (to : List ℕ) (neighbour : Neighbour) → s.configuration.role ≡ Host
+        → current_neighbour s.moment Rd to s.facts ≡ None → current_neighbour s.moment Es to s.facts ≡ Some neighbour
+        → next_hop s to ≡ Some (hop_to neighbour) }
+    ensures intermediate_system { (s : SystemState) (to : List ℕ) (neighbour : Neighbour) → s.configuration.role ≡ Host
+        → current_neighbour s.moment Rd to s.facts ≡ None → current_neighbour s.moment Es to s.facts ≡ None
+        → last_router s.moment s.facts ≡ Some neighbour → next_hop s to ≡ Some (hop_to neighbour) }
+    ensures everyone { (s : SystemState) (to : List ℕ) → s.configuration.role ≡ Host
+        → current_neighbour s.moment Rd to s.facts ≡ None
+        → current_neighbour s.moment Es to s.facts ≡ None → last_router s.moment s.facts ≡ None
         → next_hop s to ≡ Some (record { port = 0; target = EndSystems }) }
-    ensures neighbour { (s : SystemState) (to : List ℕ) (place : Place) → s.configuration.role ≡ Router
-        → current_place s.moment Es to s.facts ≡ Some place → next_hop s to ≡ Some (hop_to place) }
+    ensures neighbour { (s : SystemState) (to : List ℕ) (neighbour : Neighbour) → s.configuration.role ≡ Router
+        → current_neighbour s.moment Es to s.facts ≡ Some neighbour → next_hop s to ≡ Some (hop_to neighbour) }
     ensures by_route { (s : SystemState) (to : List ℕ) (route : Route) → s.configuration.role ≡ Router
-        → current_place s.moment Es to s.facts ≡ None → longest to s.attached.routes ≡ Some route
+        → current_neighbour s.moment Es to s.facts ≡ None → longest to s.attached.routes ≡ Some route
         → next_hop s to ≡ Some (record { port = route.port; target = System route.snpa }) }
-    ensures nowhere { (s : SystemState) (to : List ℕ) → s.configuration.role ≡ Router → current_place s.moment Es to s.facts ≡ None
+    ensures nowhere { (s : SystemState) (to : List ℕ) → s.configuration.role ≡ Router
+        → current_neighbour s.moment Es to s.facts ≡ None
         → longest to s.attached.routes ≡ None → next_hop s to ≡ None }
 {}
 
@@ -277,11 +306,14 @@ pub fn next_hops_are_what_is_known()
 /// again.
 pub fn hellos_are_pdus()
     ensures own { (s : SystemState) (input : Input) → AllByRecursion (SendsItsOwn s) (step s input).outputs }
-    ensures hello { (s : SystemState) → IsSystem s.configuration → All IsAddress s.configuration.addresses → IsPdu (own_hello s) }
-    ensures pdus { (s : SystemState) (input : Input) → IsSystem s.configuration → All IsAddress s.configuration.addresses
+    ensures hello { (s : SystemState) → IsSystem s.configuration → All IsAddress s.configuration.addresses
+        → IsPdu (own_hello s) }
+    ensures pdus { (s : SystemState) (input : Input) → IsSystem s.configuration
+        → All IsAddress s.configuration.addresses
         → AllByRecursion IsAddressedRoute s.attached.routes → IsFair input → KnowsAddresses s
         → AllByRecursion SendsEsisPdus (step s input).outputs }
-    ensures known { (s : SystemState) (input : Input) → IsFair input → KnowsAddresses s → KnowsAddresses (step s input).after }
+    ensures known { (s : SystemState) (input : Input) → IsFair input → KnowsAddresses s
+        → KnowsAddresses (step s input).after }
 {
     clnp_plan::forwarding::laws::what_is_longest_covers();
 }
@@ -298,20 +330,25 @@ pub fn a_redirect_changes_one_next_hop()
 /// A router that sends a packet on tells its source of a better way exactly where that is called for (ISO 9542, section 6.8):
 /// of the way to the packet's destination, in one redirect, to the place from which the packet came.
 pub fn redirects_are_sent_where_called_for()
-    ensures sent { (s : SystemState) (came : Place) (p : Packet) (following : List ℕ)
+    ensures sent { (s : SystemState) (came : Neighbour) (p : Packet) (following : List ℕ)
         → let outputs = (passes_by Router s came p following).outputs in (list_any sends_esis outputs ≡ true) ↔ CallsForRedirect s came p outputs }
-    ensures better { (s : SystemState) (came : Place) (p : Packet) (following : List ℕ) (way : Way) → way_of s p.unit.destination ≡ Some way
+    ensures better { (s : SystemState) (came : Neighbour) (p : Packet) (following : List ℕ) (way : Way)
+        → way_of s p.unit.destination ≡ Some way
         → let sent = filter sends_esis (passes_by Router s came p following).outputs in
-        (sent ≡ []) ⊎ (sent ≡ SendsEsis came.port (System came.snpa) (redirect s p.unit.destination way.place.snpa way.title) ∷ []) }
+        (sent ≡ []) ⊎ (sent ≡ SendsEsis came.port (System came.snpa) (redirect s p.unit.destination way.neighbour.snpa way.title) ∷ []) }
 {}
 
 /// A hello is said exactly where one is due when a moment comes: on each port, in order; the next one is due a period later,
 /// from that moment on. Where none is due, none is said, and the next one stays as it was.
 pub fn a_hello_is_said_where_one_is_due()
-    ensures said { (s : SystemState) (now : ℕ) → IsHelloDue s now → filter sends_esis (step s (MomentComes now)).outputs ≡ hello_everywhere s }
-    ensures next { (s : SystemState) (now : ℕ) → IsHelloDue s now → (step s (MomentComes now)).after.next_hello ≡ now + 2 * s.hello }
-    ensures silent { (s : SystemState) (now : ℕ) → ¬ (IsHelloDue s now) → filter sends_esis (step s (MomentComes now)).outputs ≡ [] }
-    ensures stays { (s : SystemState) (now : ℕ) → ¬ (IsHelloDue s now) → (step s (MomentComes now)).after.next_hello ≡ s.next_hello }
+    ensures said { (s : SystemState) (now : ℕ) → IsHelloDue s now
+        → filter sends_esis (step s (MomentComes now)).outputs ≡ hello_everywhere s }
+    ensures next { (s : SystemState) (now : ℕ) → IsHelloDue s now
+        → (step s (MomentComes now)).after.next_hello ≡ now + 2 * s.hello }
+    ensures silent { (s : SystemState) (now : ℕ) → ¬ (IsHelloDue s now)
+        → filter sends_esis (step s (MomentComes now)).outputs ≡ [] }
+    ensures stays { (s : SystemState) (now : ℕ) → ¬ (IsHelloDue s now)
+        → (step s (MomentComes now)).after.next_hello ≡ s.next_hello }
 {}
 
 /// A system says hello as often as before, and its next one is due as before, whatever ES-IS PDU comes, but where a host that
@@ -330,7 +367,8 @@ pub fn a_suggested_period_is_followed()
 pub fn a_moment_is_told_in_order()
     ensures order { (s : SystemState) (now : ℕ) → let ticked = tick s now in (step s (MomentComes now)).outputs
         ≡ flat_map (outputs_of ticked.after) ticked.actions ++ (map gone_note (gone s.moment now s.facts) ++ (says_hello ticked.after).outputs) }
-    ensures ended { (s : SystemState) (ended : Buffer Packet) → let rest = without ended.key s.buffers in (gives_up s ended).actions
+    ensures ended { (s : SystemState) (ended : Buffer Packet)
+        → let rest = without ended.key s.buffers in (gives_up s ended).actions
         ≡ Tells (Expired ended.key.id (held rest)) ∷ (discard_first (record s { buffers = rest }) (first_carried ended)).actions }
 {}
 
@@ -387,11 +425,13 @@ pub fn only_owners_hand_up()
 /// nothing changes. An identifier can be drawn exactly where the quiet time is over, and it rested long
 /// enough since its last use.
 pub fn units_are_made_where_allowed()
-    ensures allowed { (s : SystemState) (u : Unit) → (refusal s u ≡ None) ↔ IsAllowed s u }
-    ensures refused { (s : SystemState) (u : Unit) → IsRefusal (refusal s u) }
-    ensures made { (s : SystemState) (kind : Kind) (from to octets : List ℕ) (ask : Ask) → IsAllowed s (unit_of s kind from to octets ask)
+    ensures allowed { (s : SystemState) (u : DataUnit) → (refusal s u ≡ None) ↔ IsAllowed s u }
+    ensures refused { (s : SystemState) (u : DataUnit) → IsRefusal (refusal s u) }
+    ensures made { (s : SystemState) (kind : Kind) (from to octets : List ℕ) (ask : Ask)
+        → IsAllowed s (unit_of s kind from to octets ask)
         → make s kind from to octets ask ≡ makes s (unit_of s kind from to octets ask) }
-    ensures unmade { (s : SystemState) (kind : Kind) (from to octets : List ℕ) (ask : Ask) → ¬ (IsAllowed s (unit_of s kind from to octets ask))
+    ensures unmade { (s : SystemState) (kind : Kind) (from to octets : List ℕ) (ask : Ask)
+        → ¬ (IsAllowed s (unit_of s kind from to octets ask))
         → LeavesRefused s (make s kind from to octets ask) }
     ensures drawn { (now : ℕ) (ids : Identifiers) → (not_drawn now ids ≡ None) ↔ MayBeDrawn now ids }
 {}
@@ -421,8 +461,10 @@ pub fn ended_buffers_are_taken_out()
 /// before, and each that was there is left, unless one of its key has ended.
 pub fn each_ended_buffer_is_taken_out()
     ensures none_due { (s : SystemState) (now : ℕ) → due now (step s (MomentComes now)).after.buffers ≡ None }
-    ensures there { (s : SystemState) (now : ℕ) → AllByRecursion (Contains s.buffers) (step s (MomentComes now)).after.buffers }
-    ensures stays { (s : SystemState) (now : ℕ) → AllByRecursion (StaysUnlessEnded now s.buffers (step s (MomentComes now)).after.buffers) s.buffers }
+    ensures there { (s : SystemState) (now : ℕ)
+        → AllByRecursion (Contains s.buffers) (step s (MomentComes now)).after.buffers }
+    ensures stays { (s : SystemState) (now : ℕ)
+        → AllByRecursion (StaysUnlessEnded now s.buffers (step s (MomentComes now)).after.buffers) s.buffers }
 {}
 
 /// A restart leaves a system as at its start, quiet for as long as an identifier rests, but for its place, its moment, the count of
@@ -439,7 +481,8 @@ pub fn a_restart_begins_anew()
 pub fn reports_make_no_storm()
     ensures one { (s : SystemState) (frame : Content) (reason place : ℕ)
         → IsAtMostReportOf (frame_of frame) (made_in (discard s frame reason place).actions) }
-    ensures none { (s : SystemState) (frame : Content) (reason place : ℕ) → kind_of (type_of (header_of (frame_of frame))) ≡ Some Er
+    ensures none { (s : SystemState) (frame : Content) (reason place : ℕ)
+        → kind_of (type_of (header_of (frame_of frame))) ≡ Some Er
         → made_in (discard s frame reason place).actions ≡ [] }
 {
     error_reports::laws::no_report_of_a_report();
@@ -483,7 +526,8 @@ pub fn replies_are_replies()
 /// a restart forgets them.
 pub fn requests_are_kept()
     ensures few { (s : SystemState) (input : Input) → length s.pending ≤ 8 → length (step s input).after.pending ≤ 8 }
-    ensures made { (s : SystemState) (input : Input) → AllByRecursion (WasPendingOrMade s (step s input)) (step s input).after.pending }
+    ensures made { (s : SystemState) (input : Input)
+        → AllByRecursion (WasPendingOrMade s (step s input)) (step s input).after.pending }
     ensures forgotten { (s : SystemState) → (step s IsRestarted).after.pending ≡ [] }
 {}
 
@@ -491,15 +535,17 @@ pub fn requests_are_kept()
 /// made, if it isn't refused. Else they stay, whatever comes, until a restart or a reply: a reply answers the oldest request that
 /// it may answer, which is then answered, and no other; where there is none it is stray.
 pub fn requests_are_the_last_and_answered_in_order()
-    ensures made { (s : SystemState) (from to octets : List ℕ) → length s.pending ≤ 8 → let effect = step s (AsksForEcho from to octets) in
+    ensures made { (s : SystemState) (from to octets : List ℕ) → length s.pending ≤ 8
+        → let effect = step s (AsksForEcho from to octets) in
         effect.after.pending ≡ newest 8 (s.pending ++ effect.units) }
     ensures stay { (s : SystemState) (input : Input) → AnswersNothing input → (step s input).after.pending ≡ s.pending }
     ensures unless_answered { (s : SystemState) (port : ℕ) (sender : List ℕ) (to_group : Bool) (p : Packet) (following : List ℕ)
         → StayUnlessAnswered p s.pending (step s (FrameComes port sender to_group (Labelled p following))).after.pending }
-    ensures answered { (s : SystemState) (source destination octets : List ℕ) (before : List Unit) (request : Unit) (behind : List Unit)
+    ensures answered { (s : SystemState) (source destination octets : List ℕ) (before : List DataUnit) (request : DataUnit) (behind : List DataUnit)
         → AnswersOldest source destination octets s.pending before request behind
         → is_replied s source destination octets ≡ tells (record s { pending = before ++ behind }) (Echoed source destination request.number) }
-    ensures stray { (s : SystemState) (source destination octets : List ℕ) → AnswersNone source destination octets s.pending
+    ensures stray { (s : SystemState) (source destination octets : List ℕ)
+        → AnswersNone source destination octets s.pending
         → is_replied s source destination octets ≡ tells s (Stray source destination) }
 {}
 
@@ -536,7 +582,8 @@ pub fn budgets_are_kept()
 
 /// A segment that is kept after a step was kept before it, or came in it.
 pub fn segments_were_kept_or_come()
-    ensures { (s : SystemState) (input : Input) → AllByRecursion (WasKeptOrComes s input) (segments_in (step s input).after.buffers) }
+    ensures { (s : SystemState) (input : Input)
+        → AllByRecursion (WasKeptOrComes s input) (segments_in (step s input).after.buffers) }
 {}
 
 /// The pieces of a packet are those of its PDU: their values, in order, and none exactly where the
@@ -555,8 +602,10 @@ pub fn a_packet_may_be_all_of_its_unit()
 
 /// All octets from outside have a content: they are its frame, and a frame may carry it.
 pub fn octets_have_a_content()
-    ensures frame { (number moment : ℕ) (octets : List ℕ) → IsBytes octets → frame_of (content_of number moment octets) ≡ octets }
-    ensures carried { (number moment : ℕ) (octets : List ℕ) → IsBytes octets → IsCarried (content_of number moment octets) }
+    ensures frame { (number moment : ℕ) (octets : List ℕ) → IsBytes octets
+        → frame_of (content_of number moment octets) ≡ octets }
+    ensures carried { (number moment : ℕ) (octets : List ℕ) → IsBytes octets
+        → IsCarried (content_of number moment octets) }
 {}
 
 /// The PDU at the front of a frame that carries a packet is the packet's, and what follows it is what
@@ -590,7 +639,8 @@ pub fn a_frame_carries_one_esis_value()
 /// value with 0x82.
 pub fn no_frame_is_of_both_protocols()
     ensures packet { (p : Packet) (following : List ℕ) → IsCarriable p → octet (wire p ++ following) 1 ≡ 0x81 }
-    ensures esis { (value : EsisValue) (following : List ℕ) → IsPdu value → octet (spelling value ++ following) 1 ≡ 0x82 }
+    ensures esis { (value : EsisValue) (following : List ℕ) → IsPdu value
+        → octet (spelling value ++ following) 1 ≡ 0x82 }
 {
     clnp_plan::pdu_header::laws::spelled_where_no_rule_is_broken();
     esis_pdus::laws::spelled_where_no_rule_is_broken();

@@ -4,6 +4,7 @@
 
 pub mod attaching;
 pub mod laws;
+pub mod way;
 
 pub use clnp_plan;
 pub use clnp_plan::{

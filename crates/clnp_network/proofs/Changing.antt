@@ -22,25 +22,25 @@ use Rattle.clnp_machine.specs.Change.{Change, PortIsAt, PortTakes, RouteIsGone, 
 use Rattle.clnp_machine.specs.System.{SystemState, IsChanged, IsRestarted}
 use Rattle.clnp_machine.specs.Local.{restarted}
 use Rattle.clnp_machine.specs.Step.{as_changed}
-use Rattle.clnp_machine.specs.Unit.{Unit}
+use Rattle.clnp_machine.specs.Unit.{DataUnit}
 use Rattle.scenario.specs.Scenario.{Subnetwork}
 use Rattle.scenario.specs.declared.event.Event.{Event}
 use Rattle.scenario.specs.declared.event.Event.TheVariants as event
 use Rattle.clnp_network.specs.Changed.{ChangesNetwork, KeepsAttachments, KeepsTraffic, resized, unattached, with_frames, with_moved, with_resized, with_routes, with_system}
-use Rattle.clnp_network.specs.World.{Step, World, comes, comes_to, event_happens, followed_by, moved, moves_port, moves_port_of, moves_port_on, moves_port_to, nothing, ports_of, removes_route, removes_route_as, removes_route_of, resizes, resizes_each, resizes_on, resizes_port_of, resizes_ports, sets_route, sets_route_as, sets_route_of, tells_of, writes}
+use Rattle.clnp_network.specs.LabelledNetwork.{Step, LabelledNetwork, comes, comes_to, event_happens, followed_by, moved, moves_port, moves_port_of, moves_port_on, moves_port_to, nothing, ports_of, removes_route, removes_route_as, removes_route_of, resizes, resizes_each, resizes_on, resizes_port_of, resizes_ports, sets_route, sets_route_as, sets_route_of, tells_of, writes}
 use Rattle.clnp_network.proofs.Sweeps.{change_at, sweep, sweep_all}
 
 -- A change that comes to a system.
 
 -- with these systems, and no lines
-abbrev becomes : World → List SystemState → Step
+abbrev becomes : LabelledNetwork → List SystemState → Step
 becomes w systems = nothing (record w { systems = systems })
 
-change_comes : (w : World) (place : ℕ) (s : SystemState) (change : Change) → slice_get w.systems place ≡ Some s
+change_comes : (w : LabelledNetwork) (place : ℕ) (s : SystemState) (change : Change) → slice_get w.systems place ≡ Some s
     → comes w place (IsChanged change) ≡ becomes w (slice_set w.systems place (as_changed change s))
 change_comes w place s change there =
     ap (comes_to w place (IsChanged change)) there
-    ∙ ap (λ (units : List Unit). nothing (record w { systems = slice_set w.systems place (as_changed change s); units = units })) (append-nil w.units)
+    ∙ ap (λ (units : List DataUnit). nothing (record w { systems = slice_set w.systems place (as_changed change s); units = units })) (append-nil w.units)
 
 -- Frames of other lengths.
 
@@ -50,7 +50,7 @@ module _ (subnet mtu : ℕ) where
   with_ports s ports = record s { attached = record s.attached { ports = ports } }
 
   -- one port
-  module _ (w : World) (place : ℕ) (s : SystemState) (there : slice_get w.systems place ≡ Some s) (number : ℕ) where
+  module _ (w : LabelledNetwork) (place : ℕ) (s : SystemState) (there : slice_get w.systems place ≡ Some s) (number : ℕ) where
     stays_so : nothing w ≡ becomes w (slice_set w.systems place s)
     stays_so = ap (becomes w) (sym (slice_set-same w.systems place s there))
 
@@ -72,7 +72,7 @@ module _ (subnet mtu : ℕ) where
         ]
 
   -- some ports of a system
-  ports_are : (place : ℕ) (numbers : List ℕ) (w : World) (s : SystemState) → slice_get w.systems place ≡ Some s
+  ports_are : (place : ℕ) (numbers : List ℕ) (w : LabelledNetwork) (s : SystemState) → slice_get w.systems place ≡ Some s
       → resizes_ports w place subnet mtu numbers
       ≡ becomes w (slice_set w.systems place (with_ports s (sweep (resized subnet mtu) numbers s.attached.ports)))
   ports_are place [] w s there = stays_so w place s there 0
@@ -80,7 +80,7 @@ module _ (subnet mtu : ℕ) where
       let found = slice_get s.attached.ports number in
       let ports : List PortConfig = change_at (resized subnet mtu) number found s.attached.ports in
       let first : SystemState = with_ports s ports in
-      let v : World = record w { systems = slice_set w.systems place first } in
+      let v : LabelledNetwork = record w { systems = slice_set w.systems place first } in
       ap (λ (system : Option SystemState). followed_by (resizes_port_of w place number subnet mtu (slice_get (ports_of system) number))
       (λ u. resizes_ports u place subnet mtu numbers)) there
       ∙ ap (λ (step : Step). followed_by step (λ u. resizes_ports u place subnet mtu numbers)) (port_is w place s there number found refl)
@@ -88,7 +88,7 @@ module _ (subnet mtu : ℕ) where
       ∙ ap (becomes w) (set-set w.systems place first (with_ports s (sweep (resized subnet mtu) numbers ports)))
 
   -- all of them, where there is a system
-  system_is : (w : World) (place : ℕ) (found : Option SystemState) → slice_get w.systems place ≡ found
+  system_is : (w : LabelledNetwork) (place : ℕ) (found : Option SystemState) → slice_get w.systems place ≡ found
       → resizes_ports w place subnet mtu (range_with_len 0 (length (ports_of found)))
       ≡ becomes w (change_at (with_resized subnet mtu) place found w.systems)
   system_is w place None e = refl
@@ -97,20 +97,20 @@ module _ (subnet mtu : ℕ) where
       ∙ ap (λ (ports : List PortConfig). becomes w (slice_set w.systems place (with_ports s ports))) (sweep_all (resized subnet mtu) s.attached.ports)
 
   -- those of the systems at some places
-  systems_are : (places : List ℕ) (w : World) → resizes_each w subnet mtu places ≡ becomes w (sweep (with_resized subnet mtu) places w.systems)
+  systems_are : (places : List ℕ) (w : LabelledNetwork) → resizes_each w subnet mtu places ≡ becomes w (sweep (with_resized subnet mtu) places w.systems)
   systems_are [] w = refl
   systems_are (place ∷ places) w =
       let systems : List SystemState = change_at (with_resized subnet mtu) place (slice_get w.systems place) w.systems in
       ap (λ (step : Step). followed_by step (λ v. resizes_each v subnet mtu places)) (system_is w place (slice_get w.systems place) refl)
       ∙ systems_are places (record w { systems = systems })
 
-  frames_are : (w : World) (declared : Subnetwork) → resizes_on w subnet mtu (Some declared) ≡ writes (with_frames subnet mtu w) (Resized w.clock declared.name mtu)
+  frames_are : (w : LabelledNetwork) (declared : Subnetwork) → resizes_on w subnet mtu (Some declared) ≡ writes (with_frames subnet mtu w) (Resized w.clock declared.name mtu)
   frames_are w declared =
-      let first : World = record w { mtus = slice_set w.mtus subnet mtu } in
+      let first : LabelledNetwork = record w { mtus = slice_set w.mtus subnet mtu } in
       ap (λ (step : Step). followed_by step (λ v. writes v (Resized v.clock declared.name mtu)))
       (systems_are (range_with_len 0 (length w.systems)) first ∙ ap (becomes first) (sweep_all (with_resized subnet mtu) w.systems))
 
-module _ (subnets : List Subnetwork) (w : World) where
+module _ (subnets : List Subnetwork) (w : LabelledNetwork) where
   pub subnetwork_takes : (subnet mtu : ℕ) (declared : Subnetwork) → slice_get subnets subnet ≡ Some declared
       → resizes subnets w subnet mtu ≡ writes (with_frames subnet mtu w) (Resized w.clock declared.name mtu)
   subnetwork_takes subnet mtu declared there = ap (resizes_on w subnet mtu) there ∙ frames_are subnet mtu w declared
@@ -120,12 +120,12 @@ module _ (subnets : List Subnetwork) (w : World) where
 
 -- A change of a system, and the line that tells of it.
 
-told_is : (w : World) (place : ℕ) (s : SystemState) (change : Change) (told : Note) → slice_get w.systems place ≡ Some s
+told_is : (w : LabelledNetwork) (place : ℕ) (s : SystemState) (change : Change) (told : Note) → slice_get w.systems place ≡ Some s
     → followed_by (comes w place (IsChanged change)) (tells_of s told)
     ≡ writes (with_system place (as_changed change s) w) (Noted s.moment s.configuration.name told)
 told_is w place s change told there = ap (λ (step : Step). followed_by step (tells_of s told)) (change_comes w place s change there)
 
-module _ (w : World) (place : ℕ) where
+module _ (w : LabelledNetwork) (place : ℕ) where
   pub port_moves : (subnets : List Subnetwork) (number subnet mtu : ℕ) (snpa : List ℕ) (declared : Subnetwork) (s : SystemState) (port : PortConfig)
       → slice_get subnets subnet ≡ Some declared → slice_get w.mtus subnet ≡ Some mtu → slice_get w.systems place ≡ Some s
       → slice_get s.attached.ports number ≡ Some port
@@ -166,13 +166,13 @@ module _ (w : World) (place : ℕ) where
 -- What isn't there.
 
 -- by a subnetwork whose MTU is known there is no way to a port of nobody
-nobody_moves : (w : World) (place number subnet : ℕ) (snpa : List ℕ) (declared : Option Subnetwork) (mtu : Option ℕ) → slice_get w.systems place ≡ None
+nobody_moves : (w : LabelledNetwork) (place number subnet : ℕ) (snpa : List ℕ) (declared : Option Subnetwork) (mtu : Option ℕ) → slice_get w.systems place ≡ None
     → moves_port_on w place number subnet snpa declared mtu ≡ nothing w
 nobody_moves w place number subnet snpa None mtu none = refl
 nobody_moves w place number subnet snpa (Some declared) None none = refl
 nobody_moves w place number subnet snpa (Some declared) (Some mtu) none = ap (moves_port_of w place number subnet snpa mtu declared) none
 
-none_moves : (w : World) (place number subnet : ℕ) (snpa : List ℕ) (s : SystemState) (declared : Option Subnetwork) (mtu : Option ℕ)
+none_moves : (w : LabelledNetwork) (place number subnet : ℕ) (snpa : List ℕ) (s : SystemState) (declared : Option Subnetwork) (mtu : Option ℕ)
     → slice_get w.systems place ≡ Some s → slice_get s.attached.ports number ≡ None → moves_port_on w place number subnet snpa declared mtu ≡ nothing w
 none_moves w place number subnet snpa s None mtu there none = refl
 none_moves w place number subnet snpa s (Some declared) None there none = refl
@@ -180,14 +180,14 @@ none_moves w place number subnet snpa s (Some declared) (Some mtu) there none =
     ap (moves_port_of w place number subnet snpa mtu declared) there ∙ ap (moves_port_to w place number subnet snpa mtu declared s) none
 
 -- a route astray is set at no system
-route_astray : (role : Role) (w : World) (place : ℕ) (s : SystemState) (route : Route) → length s.attached.ports ≤ route.port
+route_astray : (role : Role) (w : LabelledNetwork) (place : ℕ) (s : SystemState) (route : Route) → length s.attached.ports ≤ route.port
     → sets_route_as role w place s route ≡ nothing w
 route_astray Host w place s route astray = refl
 route_astray Router w place s route astray =
     let leads_not : nat_lt route.port (length s.attached.ports) ≡ false = grind arith in
     ap (λ (test : Bool). if test then followed_by (comes w place (IsChanged (RouteIsSet route))) (tells_of s (note.Route route.prefix)) else nothing w) leads_not
 
-module _ (w : World) (place : ℕ) where
+module _ (w : LabelledNetwork) (place : ℕ) where
   pub no_port_moves_nowhere : (subnets : List Subnetwork) (number subnet : ℕ) (snpa : List ℕ) → slice_get subnets subnet ≡ None
       → moves_port subnets w place number subnet snpa ≡ nothing w
   no_port_moves_nowhere subnets number subnet snpa none =
@@ -218,11 +218,11 @@ module _ (w : World) (place : ℕ) where
 
 -- What each event that changes a network leaves as it was.
 
-keeps_itself : (w : World) → KeepsTraffic w w
+keeps_itself : (w : LabelledNetwork) → KeepsTraffic w w
 keeps_itself w = record { clock = refl; units = refl; copies = refl; cursor = refl; systems = refl }
 
 -- a system is another one, but not without what it is attached to
-keeps_others : (w : World) (place : ℕ) (s t : SystemState) → slice_get w.systems place ≡ Some s → unattached t ≡ unattached s
+keeps_others : (w : LabelledNetwork) (place : ℕ) (s t : SystemState) → slice_get w.systems place ≡ Some s → unattached t ≡ unattached s
     → KeepsTraffic w (with_system place t w)
 keeps_others w place s t there same = record {
   clock = refl;
@@ -236,7 +236,7 @@ all_unattached : (subnet mtu : ℕ) (systems : List SystemState) → map unattac
 all_unattached subnet mtu [] = refl
 all_unattached subnet mtu (s ∷ systems) = ap (λ (rest : List SystemState). unattached s ∷ rest) (all_unattached subnet mtu systems)
 
-module _ (w : World) where
+module _ (w : LabelledNetwork) where
   -- the world after a part of a move is as before in that
   abbrev Keeps : Step → Type 0
   Keeps step = KeepsTraffic w step.world
@@ -301,7 +301,7 @@ module _ (w : World) where
 
 -- A restart.
 
-module _ (w : World) (place : ℕ) where
+module _ (w : LabelledNetwork) (place : ℕ) where
   restarted_at : (found : Option SystemState) → slice_get w.systems place ≡ found → KeepsAttachments w (comes_to w place IsRestarted found).world
   restarted_at None e = record { mtus = refl; systems = refl }
   restarted_at (Some s) e = record {

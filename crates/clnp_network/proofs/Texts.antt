@@ -6,20 +6,20 @@ use Rattle.clnp_machine.specs.ClnpPlan.declared.journal.Telling.{Telling}
 use Rattle.clnp_machine.specs.ClnpPlan.declared.journal.Telling.TheVariants as telling
 use Rattle.scenario.specs.Scenario.{Plan}
 use Rattle.scenario.specs.declared.event.Move.{Move}
-use Rattle.clnp_network.specs.World.{World, after, first_world}
+use Rattle.clnp_network.specs.LabelledNetwork.{LabelledNetwork, after, first_world}
 use Rattle.clnp_network.specs.Run.{Entry, ending, entries_of, entry_text, entry_trace, entry_without, journal, journal_lines, last_world, lines_text, moves_made, run, stopped_at, text_of, told_lines, told_of, trace}
 
 -- the text of an entry, in a journal or in a trace
 abbrev told_entry : Telling → Entry → List ℕ
 told_entry form entry = told_lines form entry.lines
 
-told_is : (form : Telling) (plan : Plan) (w : World) (moves : List Move)
+told_is : (form : Telling) (plan : Plan) (w : LabelledNetwork) (moves : List Move)
     → told_of form plan w moves ≡ flat_map (told_entry form) (entries_of plan w moves)
 told_is form plan w [] = refl
 told_is form plan w (move ∷ moves) =
     ap (λ (more : List ℕ). told_lines form (after plan w move).lines ++ more) (told_is form plan (after plan w move).world moves)
 
-pub text_is : (plan : Plan) (w : World) (moves : List Move) → text_of plan w moves ≡ flat_map entry_text (entries_of plan w moves)
+pub text_is : (plan : Plan) (w : LabelledNetwork) (moves : List Move) → text_of plan w moves ≡ flat_map entry_text (entries_of plan w moves)
 text_is plan w moves = told_is telling.Journal plan w moves
 
 pub journal_is : (plan : Plan) → journal plan ≡ flat_map entry_text (run plan) ++ ending (stopped_at plan) (last_world plan)
@@ -45,7 +45,7 @@ without (Injected now copy subnet sender target ∷ lines) =
     ap (λ (more : List ℕ). line_text (Injected now copy subnet sender target) ++ more) (without lines)
 without (Resized now subnet mtu ∷ lines) = ap (λ (more : List ℕ). line_text (Resized now subnet mtu) ++ more) (without lines)
 
-entries_without : (plan : Plan) (w : World) (moves : List Move) → flat_map entry_without (entries_of plan w moves) ≡ text_of plan w moves
+entries_without : (plan : Plan) (w : LabelledNetwork) (moves : List Move) → flat_map entry_without (entries_of plan w moves) ≡ text_of plan w moves
 entries_without plan w [] = refl
 entries_without plan w (move ∷ moves) =
     ap (λ (text : List ℕ). text ++ flat_map entry_without (entries_of plan (after plan w move).world moves)) (without (after plan w move).lines)

@@ -6,7 +6,7 @@ use Rattle.clnp_machine.specs.Change.{with_mtu}
 use Rattle.clnp_machine.specs.System.{SystemState}
 use Rattle.scenario.specs.declared.event.Event.{Event}
 use Rattle.scenario.specs.declared.event.Event.TheVariants as event
-use Rattle.clnp_network.specs.World.{World, moved}
+use Rattle.clnp_network.specs.LabelledNetwork.{LabelledNetwork, moved}
 
 -- a port takes frames of so many octets where it is on a subnetwork, and is as it was where it is on another one
 abbrev pub resized : (subnet mtu : ℕ) → PortConfig → PortConfig
@@ -17,12 +17,12 @@ abbrev pub with_resized : (subnet mtu : ℕ) → SystemState → SystemState
 with_resized subnet mtu s = record s { attached = record s.attached { ports = map (resized subnet mtu) s.attached.ports } }
 
 -- a subnetwork takes frames of so many octets, and so does each port on it
-abbrev pub with_frames : (subnet mtu : ℕ) → World → World
+abbrev pub with_frames : (subnet mtu : ℕ) → LabelledNetwork → LabelledNetwork
 with_frames subnet mtu w =
     record w { mtus = slice_set w.mtus subnet mtu; systems = map (with_resized subnet mtu) w.systems }
 
 -- the system at a place is another one
-abbrev pub with_system : (place : ℕ) → SystemState → World → World
+abbrev pub with_system : (place : ℕ) → SystemState → LabelledNetwork → LabelledNetwork
 with_system place s w = record w { systems = slice_set w.systems place s }
 
 -- a port of a system is at an address on a subnetwork, and takes frames of so many octets; the next hello of the system is due
@@ -43,7 +43,7 @@ unattached s = record s { attached = record { ports = []; routes = [] }; next_he
 
 -- The clock, all units, copies and how many of them are settled are as before; and so is each system, what it heard, keeps and waits
 -- for, but for its ports, its routes, and when its next hello is due.
-pub record KeepsTraffic (before after : World) : Type 0 where
+pub record KeepsTraffic (before after : LabelledNetwork) : Type 0 where
   pub clock : after.clock ≡ before.clock
   pub units : after.units ≡ before.units
   pub copies : after.copies ≡ before.copies
@@ -51,7 +51,7 @@ pub record KeepsTraffic (before after : World) : Type 0 where
   pub systems : map unattached after.systems ≡ map unattached before.systems
 
 -- the ports and routes of each system, and what each subnetwork takes, are as before
-pub record KeepsAttachments (before after : World) : Type 0 where
+pub record KeepsAttachments (before after : LabelledNetwork) : Type 0 where
   pub mtus : after.mtus ≡ before.mtus
   pub systems : map (λ (s : SystemState). s.attached) after.systems ≡ map (λ (s : SystemState). s.attached) before.systems
 

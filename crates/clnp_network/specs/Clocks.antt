@@ -6,10 +6,10 @@ use Rattle.scenario.specs.declared.event.Move.{Move}
 use Rattle.scenario.specs.declared.event.Move.TheVariants.{One, SettleOne, LoseOne, TickOne, TickSystem}
 use Rattle.clnp_machine.specs.System.{SystemState}
 use Rattle.scenario.specs.Scenario.{Plan}
-use Rattle.clnp_network.specs.World.{World, first_world}
+use Rattle.clnp_network.specs.LabelledNetwork.{LabelledNetwork, first_world}
 
 -- each system's clock, which is its moment
-abbrev pub clocks_of : World → List ℕ
+abbrev pub clocks_of : LabelledNetwork → List ℕ
 clocks_of w = map (λ (system : SystemState). system.moment) w.systems
 
 -- a move takes all clocks on by one tick, or that of one system, or none
@@ -52,9 +52,9 @@ abbrev pub TickTogether : List Move → Type 0
 TickTogether moves = AllByRecursion TicksForAll moves
 
 -- each system is at the moment of the network's clock
-abbrev pub AreCurrent : World → Type 0
+abbrev pub AreCurrent : LabelledNetwork → Type 0
 AreCurrent w = AllByRecursion (λ (system : SystemState). system.moment ≡ w.clock) w.systems
 
 -- none is ahead of it
-abbrev pub NoneIsAhead : World → Type 0
+abbrev pub NoneIsAhead : LabelledNetwork → Type 0
 NoneIsAhead w = AllByRecursion (λ (system : SystemState). system.moment ≤ w.clock) w.systems

@@ -1,5 +1,5 @@
 pub use Rattle.scenario.specs as Scenario
-pub mod World
+pub mod LabelledNetwork
 pub mod Run
 pub mod Clocks
 pub mod Safe

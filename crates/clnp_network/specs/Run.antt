@@ -6,18 +6,18 @@ use Rattle.clnp_machine.specs.ClnpPlan.declared.journal.Telling.{Telling}
 use Rattle.clnp_machine.specs.ClnpPlan.declared.journal.Telling.TheVariants as telling
 use Rattle.scenario.specs.Scenario.{Plan, moves_from}
 use Rattle.scenario.specs.declared.event.Move.{Move}
-use Rattle.clnp_network.specs.World.{World, after, first_world, is_full, weight}
+use Rattle.clnp_network.specs.LabelledNetwork.{LabelledNetwork, after, first_world, is_full, weight}
 
 -- a move, and the lines that it wrote
 pub record Entry : Type 0 where
   pub move : Move
   pub lines : List Line
 
-abbrev pub world_after : Plan → World → List Move → World
+abbrev pub world_after : Plan → LabelledNetwork → List Move → LabelledNetwork
 world_after plan w [] = w
 world_after plan w (move ∷ moves) = world_after plan (after plan w move).world moves
 
-abbrev pub entries_of : Plan → World → List Move → List Entry
+abbrev pub entries_of : Plan → LabelledNetwork → List Move → List Entry
 entries_of plan w [] = []
 entries_of plan w (move ∷ moves) =
     record { move = move; lines = (after plan w move).lines } ∷ entries_of plan (after plan w move).world moves
@@ -44,23 +44,23 @@ abbrev pub entry_without : Entry → List ℕ
 entry_without entry = told_lines telling.Trace (journal_lines entry.lines)
 
 -- the text that moves write, in a journal or in a trace
-abbrev pub told_of : Telling → Plan → World → List Move → List ℕ
+abbrev pub told_of : Telling → Plan → LabelledNetwork → List Move → List ℕ
 told_of form plan w [] = []
 told_of form plan w (move ∷ moves) = told_lines form (after plan w move).lines ++ told_of form plan (after plan w move).world moves
 
-abbrev pub text_of : Plan → World → List Move → List ℕ
+abbrev pub text_of : Plan → LabelledNetwork → List Move → List ℕ
 text_of plan w moves = told_of telling.Journal plan w moves
 
 abbrev pub moves_of_plan : Plan → List Move
 moves_of_plan plan = moves_from 0 plan.events
 
 -- the moves before the first at which the network is full
-abbrev pub until_full : Plan → World → List Move → List Move
+abbrev pub until_full : Plan → LabelledNetwork → List Move → List Move
 until_full plan w [] = []
 until_full plan w (move ∷ moves) = if is_full w then [] else move ∷ until_full plan (after plan w move).world moves
 
 -- the weight of the network where it is full before a move
-abbrev pub full_weight : Plan → World → List Move → Option ℕ
+abbrev pub full_weight : Plan → LabelledNetwork → List Move → Option ℕ
 full_weight plan w [] = None
 full_weight plan w (move ∷ moves) = if is_full w then Some (weight w) else full_weight plan (after plan w move).world moves
 
@@ -76,14 +76,14 @@ stopped_at plan = full_weight plan (first_world plan) (moves_of_plan plan)
 abbrev pub run : Plan → List Entry
 run plan = entries_of plan (first_world plan) (moves_made plan)
 
-abbrev pub last_world : Plan → World
+abbrev pub last_world : Plan → LabelledNetwork
 last_world plan = world_after plan (first_world plan) (moves_made plan)
 
-abbrev pub world_end : World → List ℕ
+abbrev pub world_end : LabelledNetwork → List ℕ
 world_end w = end_text w.clock (length w.copies)
 
 -- the last line of a journal, where the run wasn't stopped
-abbrev pub ending : Option ℕ → World → List ℕ
+abbrev pub ending : Option ℕ → LabelledNetwork → List ℕ
 ending None w = world_end w
 ending (Some weight) w = []
 

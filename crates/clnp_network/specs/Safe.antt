@@ -15,14 +15,13 @@ use Rattle.clnp_machine.specs.PduHeader.Spelling.{header_length}
 use Rattle.clnp_machine.specs.Echo.Match.{Echoes}
 use Rattle.clnp_machine.specs.EsisPdus.Grammar.{IsPdu}
 use Rattle.clnp_machine.specs.Content.{Labelled, Esis, Unlabelled, Content, frame_of}
-use Rattle.clnp_machine.specs.Unit as unit
-use Rattle.clnp_machine.specs.Unit.{DeclaredAt, Packet, value_of, wire}
+use Rattle.clnp_machine.specs.Unit.{DataUnit, DeclaredAt, Packet, value_of, wire}
 use Rattle.clnp_machine.specs.Local.{header_size, is_own, offered}
 use Rattle.clnp_machine.specs.System.{SystemState}
-use Rattle.clnp_machine.specs.Steps.{BreaksNoEsisRule, BreaksNoRule, IsRangeOf, IsRedirectFor, IsReportOf, KeepsNextHops, segments_in}
+use Rattle.clnp_machine.specs.EveryStep.{BreaksNoEsisRule, BreaksNoRule, IsRangeOf, IsRedirectFor, IsReportOf, KeepsNextHops, segments_in}
 use Rattle.clnp_machine.specs.Told.{NotesNoRule}
 use Rattle.clnp_machine.specs.Reassembly.Arrival.{Arrival}
-use Rattle.clnp_network.specs.World.{Copy, Numbered, World, after, give}
+use Rattle.clnp_network.specs.LabelledNetwork.{Copy, Numbered, LabelledNetwork, after, give}
 use Rattle.clnp_network.specs.Run.{Entry}
 use Rattle.clnp_machine.specs.Reassembly.Buffer.{Buffer, held}
 use Rattle.std.specs.List.{AllByRecursion, Contains}
@@ -78,7 +77,7 @@ pub record StandsInCopy (copies : List Copy) (p : Packet) (following : List ℕ)
   pub carries : copy.content ≡ Labelled p following
 
 -- no system of the network holds more octets for reassembly than its budget
-abbrev pub IsWithinBudgets : World → Type 0
+abbrev pub IsWithinBudgets : LabelledNetwork → Type 0
 IsWithinBudgets w = AllByRecursion (λ system. held system.buffers ≤ system.configuration.settings.budget) w.systems
 
 -- a packet's hops and its lifetime are together at most its unit's lifetime
@@ -88,7 +87,7 @@ MeetsLifetime (Esis value following) = Unit {0}
 MeetsLifetime (Unlabelled octets) = Unit {0}
 
 -- no PDU of the network was forwarded more often than its lifetime allowed
-abbrev pub IsWithinLifetimes : World → Type 0
+abbrev pub IsWithinLifetimes : LabelledNetwork → Type 0
 IsWithinLifetimes w = AllByRecursion (λ copy. MeetsLifetime copy.content) w.copies
 
 -- one of some copies carries the packet from which one went on: of the same unit, with one hop less, of which it is a range
@@ -108,7 +107,7 @@ HasItsHops copies (Esis value following) = Unit {0}
 HasItsHops copies (Unlabelled octets) = Unit {0}
 
 -- so it is of each packet on the network
-abbrev pub HopsCountCopies : World → Type 0
+abbrev pub HopsCountCopies : LabelledNetwork → Type 0
 HopsCountCopies w = AllByRecursion (λ copy. HasItsHops w.copies copy.content) w.copies
 
 -- the header of a packet is as long as that of its unit's initial PDU
@@ -118,18 +117,18 @@ KeepsHeader (Esis value following) = Unit {0}
 KeepsHeader (Unlabelled octets) = Unit {0}
 
 -- each packet of the network has such a header, however often it was cut and forwarded
-abbrev pub KeepsHeaders : World → Type 0
+abbrev pub KeepsHeaders : LabelledNetwork → Type 0
 KeepsHeaders w = AllByRecursion (λ copy. KeepsHeader copy.content) w.copies
 
 -- A frame carries a range of a unit that was made, and its copy is as old as the unit; or it carries an ES-IS value that a PDU
 -- can carry. Nothing is behind its PDU.
-abbrev pub RangeIn : List unit.Unit → (birth : ℕ) → Content → Type 0
+abbrev pub RangeIn : List DataUnit → (birth : ℕ) → Content → Type 0
 RangeIn units birth (Labelled packet following) = IsRangeOf units packet × (following ≡ []) × (birth ≡ packet.unit.made)
 RangeIn units birth (Esis value following) = IsPdu value × (following ≡ [])
 RangeIn units birth (Unlabelled octets) = ⊥
 
 -- each frame on the network does
-abbrev pub CarriesRanges : World → Type 0
+abbrev pub CarriesRanges : LabelledNetwork → Type 0
 CarriesRanges w = AllByRecursion (λ copy. RangeIn w.units copy.birth copy.content) w.copies
 
 -- a frame carries a packet, and breaks no rule of PDUs; or it carries an ES-IS value with nothing behind it, and breaks none
@@ -140,7 +139,7 @@ IsUnbroken (Esis value following) = BreaksNoEsisRule (frame_of (Esis value follo
 IsUnbroken (Unlabelled octets) = ⊥
 
 -- each frame on the network does
-abbrev pub FramesAreUnbroken : World → Type 0
+abbrev pub FramesAreUnbroken : LabelledNetwork → Type 0
 FramesAreUnbroken w = AllByRecursion (λ copy. IsUnbroken copy.content) w.copies
 
 -- a segment is kept as the packet in one of some copies was offered
@@ -150,29 +149,30 @@ pub record CameInCopy (copies : List Copy) (arrival : Arrival Packet) : Type 0 w
   pub stands : StandsInCopy copies arrival.carried following
 
 -- each segment that a system keeps came in a copy
-abbrev pub KeepsWhatCame : World → Type 0
+abbrev pub KeepsWhatCame : LabelledNetwork → Type 0
 KeepsWhatCame w = AllByRecursion (λ system. AllByRecursion (CameInCopy w.copies) (segments_in system.buffers)) w.systems
 
 -- a segment is of a unit, and stands in one of some copies
-pub record IsSegmentOf (copies : List Copy) (u : unit.Unit) (arrival : Arrival Packet) : Type 0 where
+pub record IsSegmentOf (copies : List Copy) (u : DataUnit) (arrival : Arrival Packet) : Type 0 where
   pub unit : arrival.carried.unit ≡ u
   pub stands : StandsInCopy copies arrival.carried []
 
 -- all segments of a buffer are of one unit that was made
-abbrev pub HoldsOneUnit : List unit.Unit → List Copy → Buffer Packet → Type 0
-HoldsOneUnit units copies buffer = (u : unit.Unit) × Contains units u × AllByRecursion (IsSegmentOf copies u) buffer.kept
+abbrev pub HoldsOneUnit : List DataUnit → List Copy → Buffer Packet → Type 0
+HoldsOneUnit units copies buffer = (u : DataUnit) × Contains units u × AllByRecursion (IsSegmentOf copies u) buffer.kept
 
 -- each buffer of each system does
-abbrev pub HoldsUnitsApart : World → Type 0
+abbrev pub HoldsUnitsApart : LabelledNetwork → Type 0
 HoldsUnitsApart w = AllByRecursion (λ system. AllByRecursion (HoldsOneUnit w.units w.copies) system.buffers) w.systems
 
 -- of two units of one maker with one identifier the later was made so much later
-abbrev pub Rests : ℕ → (earlier later : unit.Unit) → Type 0
+abbrev pub Rests : ℕ → (earlier later : DataUnit) → Type 0
 Rests reuse earlier later =
-    earlier.maker ≡ later.maker → (identifier : ℕ) → earlier.identifier ≡ Some identifier → later.identifier ≡ Some identifier
+    earlier.maker ≡ later.maker → (identifier : ℕ) → earlier.identifier ≡ Some identifier
+    → later.identifier ≡ Some identifier
     → earlier.made + reuse ≤ later.made
 
-abbrev pub IdentifiersRest : ℕ → World → Type 0
+abbrev pub IdentifiersRest : ℕ → LabelledNetwork → Type 0
 IdentifiersRest reuse w = AllPairs (Rests reuse) w.units
 
 -- no segment of a unit meets another unit's in a buffer
@@ -196,14 +196,14 @@ TellsNoRule _ = Unit {0}
 
 -- Of the systems of a network only the one at a place is another one afterwards, and that one sends as before to each address but
 -- one.
-pub record ChangesOneNextHop (destination : List ℕ) (place : ℕ) (before after : World) : Type 0 where
+pub record ChangesOneNextHop (destination : List ℕ) (place : ℕ) (before after : LabelledNetwork) : Type 0 where
   pub others : (other : ℕ) → (other ≡ place → ⊥) → slice_get after.systems other ≡ slice_get before.systems other
   pub there : (s : SystemState) → slice_get before.systems place ≡ Some s
       → (t : SystemState) × (slice_get after.systems place ≡ Some t) × KeepsNextHops destination s t
 
 -- Where a copy that carries a redirect is given to a system of a network, it changes the next hop towards the redirect's
 -- destination alone, and no other system (ISO 9542, section 6.9).
-abbrev pub RedirectsChangeOneNextHop : Limits → World → Type 0
+abbrev pub RedirectsChangeOneNextHop : Limits → LabelledNetwork → Type 0
 RedirectsChangeOneNextHop limits w =
     (given : Numbered) (place : ℕ) (destination : List ℕ) → IsRedirectFor destination given.copy.content
     → ChangesOneNextHop destination place w (give limits given w place).world
@@ -211,13 +211,13 @@ RedirectsChangeOneNextHop limits w =
 -- Error reports and echoes.
 
 -- a unit was made by the system of a place
-pub record IsMadeAt (w : World) (place : ℕ) (system : SystemState) (u : unit.Unit) : Type 0 where
+pub record IsMadeAt (w : LabelledNetwork) (place : ℕ) (system : SystemState) (u : DataUnit) : Type 0 where
   pub made : Contains w.units u
   pub maker : u.maker ≡ DeclaredAt place
   pub there : slice_get w.systems place ≡ Some system
 
 -- a unit is the report of the discard of a packet that stands in one of some copies, and goes to the packet's source
-pub record ReportsOnCopy (copies : List Copy) (u : unit.Unit) : Type 0 where
+pub record ReportsOnCopy (copies : List Copy) (u : DataUnit) : Type 0 where
   pub packet : Packet
   pub following : List ℕ
   pub stands : StandsInCopy copies packet following
@@ -225,11 +225,11 @@ pub record ReportsOnCopy (copies : List Copy) (u : unit.Unit) : Type 0 where
   pub source : packet.unit.source ≡ u.destination
 
 -- each error report that was made is one
-abbrev pub ReportsStand : World → Type 0
-ReportsStand w = AllByRecursion (λ (u : unit.Unit). u.kind ≡ Er → ReportsOnCopy w.copies u) w.units
+abbrev pub ReportsStand : LabelledNetwork → Type 0
+ReportsStand w = AllByRecursion (λ (u : DataUnit). u.kind ≡ Er → ReportsOnCopy w.copies u) w.units
 
 -- octets are the header of the PDU of a packet of a unit that the system with a name made; a copy carries the packet
-pub record IsHeaderOfOwn (w : World) (name octets : List ℕ) : Type 0 where
+pub record IsHeaderOfOwn (w : LabelledNetwork) (name octets : List ℕ) : Type 0 where
   pub place : ℕ
   pub system : SystemState
   pub packet : Packet
@@ -261,11 +261,11 @@ RequestedSinceRestart (entry ∷ later) name number from to =
 -- An echo reply from one address to another came for the request of a number that the system with a name made: the request was
 -- made since its last restart, with the two addresses exchanged; the reply is a unit that an owner of its source made, and its
 -- data answer the request (RFC 1575).
-pub record IsAnswered (w : World) (past : List Entry) (name from to : List ℕ) (number : ℕ) : Type 0 where
+pub record IsAnswered (w : LabelledNetwork) (past : List Entry) (name from to : List ℕ) (number : ℕ) : Type 0 where
   pub since : RequestedSinceRestart past name number to from
   pub place : ℕ
   pub system : SystemState
-  pub request : unit.Unit
+  pub request : DataUnit
   pub requested : IsMadeAt w place system request
   pub named : system.configuration.name ≡ name
   pub request_kind : request.kind ≡ Erq
@@ -274,7 +274,7 @@ pub record IsAnswered (w : World) (past : List Entry) (name from to : List ℕ) 
   pub request_destination : request.destination ≡ from
   pub owner_place : ℕ
   pub owner : SystemState
-  pub reply : unit.Unit
+  pub reply : DataUnit
   pub replied : IsMadeAt w owner_place owner reply
   pub owns : is_own owner from ≡ true
   pub reply_kind : reply.kind ≡ Erp
@@ -283,13 +283,13 @@ pub record IsAnswered (w : World) (past : List Entry) (name from to : List ℕ) 
   pub answers : Echoes request.octets reply.octets
 
 -- what a line says of error reports and echo replies that came to a system is founded on what the system made
-abbrev pub IsFounded : World → List Entry → Line → Type 0
+abbrev pub IsFounded : LabelledNetwork → List Entry → Line → Type 0
 IsFounded w past (Noted now name (Report from to reason place octets)) = IsHeaderOfOwn w name octets
 IsFounded w past (Noted now name (Echoed from to number)) = IsAnswered w past name from to number
 IsFounded w past _ = Unit {0}
 
 -- so is each line of some moves
-abbrev pub EachIsFounded : Plan → World → List Entry → List Move → Type 0
+abbrev pub EachIsFounded : Plan → LabelledNetwork → List Entry → List Move → Type 0
 EachIsFounded plan w past [] = Unit {0}
 EachIsFounded plan w past (move ∷ moves) =
     AllByRecursion (IsFounded w past) (after plan w move).lines

@@ -2,7 +2,7 @@
 
 ghost use Rattle.std.specs.Prelude.{◌≡◌, ◌+◌, ◌≤◌, length};
 ghost use Rattle.clnp_options.specs.Parameter.{Parameter, known_codes};
-ghost use Rattle.clnp_options.specs.Rules as rules;
+ghost use Rattle.clnp_options.specs.Rules as option_rules;
 ghost use Rattle.clnp_options.specs.Tests.{test_of};
 
 use crate::codes::{PADDING, PRIORITY, QUALITY, REASON, RECORDING, SECURITY, SOURCE_ROUTE};
@@ -36,7 +36,7 @@ pub(crate) fn picks(test: Test, code: u8, value: &[u8]) -> bool
 }
 
 fn is_known(code: u8) -> bool
-    ensures { result ≡ rules.contains_code known_codes code }
+    ensures { result ≡ option_rules.contains_code known_codes code }
 {
     matches!(
         code,
@@ -45,7 +45,7 @@ fn is_known(code: u8) -> bool
 }
 
 fn has_bad_form(code: u8, value: &[u8]) -> bool
-    ensures { result ≡ rules.has_bad_form (record { code = code; value = value.now }) }
+    ensures { result ≡ option_rules.has_bad_form (record { code = code; value = value.now }) }
 {
     match code {
         RECORDING => !is_recording(value),
@@ -58,14 +58,14 @@ fn has_bad_form(code: u8, value: &[u8]) -> bool
 
 /// Whether the value is empty or its two high bits are the reserved format 00.
 fn lacks_format(value: &[u8]) -> bool
-    ensures { result ≡ rules.lacks_format value.now }
+    ensures { result ≡ option_rules.lacks_format value.now }
 {
     value.is_empty() || value[0] < 0x40
 }
 
 /// Whether whole titles, each of 1 to 20 octets after its length octet, fill the octets.
 fn are_titles(octets: &[u8]) -> bool
-    ensures { result ≡ rules.are_titles octets.now }
+    ensures { result ≡ option_rules.are_titles octets.now }
 {
     let mut rest = octets;
     while let [size, others @ ..] = rest {
@@ -80,7 +80,7 @@ fn are_titles(octets: &[u8]) -> bool
 
 /// Whether a kind of 0 or 1 and a pointer begin the value.
 fn has_kind(value: &[u8]) -> bool
-    ensures { result ≡ rules.has_kind value.now }
+    ensures { result ≡ option_rules.has_kind value.now }
 {
     value.len() >= 2 && value[0] <= 1
 }
@@ -88,14 +88,14 @@ fn has_kind(value: &[u8]) -> bool
 /// Whether the pointer is at least 3 and titles fill the places from 3 to before it.
 fn is_after_titles(value: &[u8], pointer: u8) -> bool
     requires { pointer ≤ length value.now + 1 }
-    ensures { result ≡ rules.is_after_titles value.now pointer }
+    ensures { result ≡ option_rules.is_after_titles value.now pointer }
 {
     let pointer = pointer as usize;
     pointer >= 3 && are_titles(&value[2..pointer - 1])
 }
 
 fn is_source_route(value: &[u8]) -> bool
-    ensures { result ≡ rules.is_source_route value.now }
+    ensures { result ≡ option_rules.is_source_route value.now }
 {
     if !has_kind(value) || !are_titles(&value[2..]) {
         return false;
@@ -105,7 +105,7 @@ fn is_source_route(value: &[u8]) -> bool
 }
 
 fn is_recording(value: &[u8]) -> bool
-    ensures { result ≡ rules.is_recording value.now }
+    ensures { result ≡ option_rules.is_recording value.now }
 {
     if !has_kind(value) {
         return false;

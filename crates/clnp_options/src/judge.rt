@@ -2,7 +2,7 @@
 
 ghost use Rattle.std.specs.Prelude.{◌≡◌, ◌↔◌, ◌+◌, ◌≤◌, [], length, MatchResult, IsOk, OnOk, Some, None};
 ghost use Rattle.clnp_options.specs.Parameter.{spelled, parameters};
-ghost use Rattle.clnp_options.specs.Rules as rules;
+ghost use Rattle.clnp_options.specs.Rules as option_rules;
 ghost use Rattle.clnp_options.specs.Rules.{refusal, Accepts, IsWellFormed, Gives};
 ghost use Rattle.clnp_options.specs.Tests.{test_of};
 
@@ -51,7 +51,7 @@ pub fn check(part: &[u8], first: u8, is_report: bool) -> Result<(), OptionRefusa
 /// The rules that don't depend on the kind of the PDU, G14 to G19.
 fn check_form(part: &[u8], first: u8) -> Result<(), OptionRefusal>
     requires { first + length part.now ≤ 255 }
-    ensures { Gives result (rules.form_refusal first part.now) }
+    ensures { Gives result (option_rules.form_refusal first part.now) }
 {
     at_rule(14, Reason::HeaderSyntaxError, place_of_unfit(part, first))?;
     at_rule(15, Reason::DuplicateOption, place_of_repeat(part, first))?;
@@ -79,7 +79,7 @@ fn check_form(part: &[u8], first: u8) -> Result<(), OptionRefusal>
 
 /// Refuses by this rule where there is a place at which it is broken.
 fn at_rule(rule: u8, reason: Reason, broken_at: Option<u8>) -> Result<(), OptionRefusal>
-    ensures { Gives result (rules.at_rule rule reason broken_at) }
+    ensures { Gives result (option_rules.at_rule rule reason broken_at) }
 {
     match broken_at {
         None => Ok(()),
@@ -94,7 +94,7 @@ fn at_rule(rule: u8, reason: Reason, broken_at: Option<u8>) -> Result<(), Option
 /// The place of the first option that the test picks.
 fn place_of(test: Test, part: &[u8], first: u8) -> Option<u8>
     requires { first + length part.now ≤ 255 }
-    ensures { result ≡ rules.place_of (test_of test) first (parameters part.now) }
+    ensures { result ≡ option_rules.place_of (test_of test) first (parameters part.now) }
 {
     let mut place = first;
     let mut rest = part;
@@ -112,7 +112,7 @@ fn place_of(test: Test, part: &[u8], first: u8) -> Option<u8>
 /// `first`; none where whole options fill the part.
 pub fn place_of_unfit(part: &[u8], first: u8) -> Option<u8>
     requires { first + length part.now ≤ 255 }
-    ensures { result ≡ rules.place_of_unfit first part.now }
+    ensures { result ≡ option_rules.place_of_unfit first part.now }
 {
     let mut place = first;
     let mut rest = part;
@@ -126,7 +126,7 @@ pub fn place_of_unfit(part: &[u8], first: u8) -> Option<u8>
 /// The place of the first option that isn't padding and whose code came before.
 fn place_of_repeat(part: &[u8], first: u8) -> Option<u8>
     requires { first + length part.now ≤ 255 }
-    ensures { result ≡ rules.place_of_repeat [] first (parameters part.now) }
+    ensures { result ≡ option_rules.place_of_repeat [] first (parameters part.now) }
 {
     let mut seen = [false; 256];
     let mut place = first;
@@ -146,7 +146,7 @@ fn place_of_repeat(part: &[u8], first: u8) -> Option<u8>
 /// report that has none, the place of the octet that says its type.
 fn place_of_reason(part: &[u8], first: u8, is_report: bool) -> Option<u8>
     requires { first + length part.now ≤ 255 }
-    ensures { result ≡ rules.place_of_reason is_report first (parameters part.now) }
+    ensures { result ≡ option_rules.place_of_reason is_report first (parameters part.now) }
 {
     let found = place_of(Test::Reason, part, first);
     if !is_report {

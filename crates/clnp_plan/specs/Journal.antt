@@ -10,9 +10,9 @@ use Rattle.pdu_header.specs.Spelling.{pair_of}
 use Rattle.pdu_header.specs.declared.kind.Kind.{Kind}
 use Rattle.pdu_header.specs.declared.kind.Kind.TheVariants.{Dt, Er, Erq, Erp}
 use Rattle.esis_tables.specs.declared.fact.Heard.{Heard}
-use Rattle.esis_tables.specs.declared.fact.Heard.TheVariants as heard
+use Rattle.esis_tables.specs.declared.fact.Heard.TheVariants as hearing
 use Rattle.esis_tables.specs.declared.fact.TableKind.{TableKind}
-use Rattle.esis_tables.specs.declared.fact.TableKind.TheVariants as table
+use Rattle.esis_tables.specs.declared.fact.TableKind.TheVariants as table_kind
 use Rattle.clnp_plan.specs.declared.journal.Telling.{Telling}
 use Rattle.clnp_plan.specs.declared.journal.Telling.TheVariants as telling
 use Rattle.clnp_plan.specs.declared.note.Note.{Note}
@@ -48,16 +48,16 @@ why_word why.IdsBusy = codes "ids-busy"
 
 -- of whom was heard: end systems, intermediate systems, redirects
 abbrev pub table_word : TableKind → List ℕ
-table_word table.Es = codes "es"
-table_word table.Is = codes "is"
-table_word table.Rd = codes "rd"
+table_word table_kind.Es = codes "es"
+table_word table_kind.Is = codes "is"
+table_word table_kind.Rd = codes "rd"
 
 -- what came of a hearing; a full table is told with the number of its entries
 abbrev pub heard_words : Heard → List (List ℕ)
-heard_words heard.New = codes "new" ∷ []
-heard_words heard.Again = codes "again" ∷ []
-heard_words heard.Zero = codes "zero" ∷ []
-heard_words (heard.Full entries) = codes "full" ∷ decimal entries ∷ []
+heard_words hearing.New = codes "new" ∷ []
+heard_words hearing.Again = codes "again" ∷ []
+heard_words hearing.Zero = codes "zero" ∷ []
+heard_words (hearing.Full entries) = codes "full" ∷ decimal entries ∷ []
 
 -- a rule of ES-IS PDUs
 abbrev pub rule_word : ℕ → List ℕ

@@ -7,7 +7,7 @@ ghost use Rattle.pdu_header.specs.Spelling.{pair_of};
 ghost use Rattle.clnp_plan.specs.Journal.{ForNobody, Injected, Late, Lost, Noted, Received, Resized, Transmitted, Void, line_of, line_text, trace_text, end_text, heard_words, ignored_word, kind_word, table_word, why_word, octet_word, octets_word, identifier_word, rule_word, yes_or_no};
 ghost use Rattle.clnp_plan.specs.Words.{line_from, word_text};
 
-use crate::line::{Word, on_or_off, push_line, target_text};
+use crate::line::{Word, kind_word, octets_word, on_or_off, push_line, target_text};
 use crate::note::{Note, Why};
 use esis_tables::{Heard, TableKind};
 use pdu_header::Kind;
@@ -586,18 +586,6 @@ pub fn push_end(_alloc: Global, now: u64, copies: u64, out: &mut Vec<u8>) -> Res
     )
 }
 
-/// The word of a kind of PDU.
-fn kind_word(kind: Kind) -> Word<'static>
-    ensures { word_text result ≡ kind_word kind }
-{
-    match kind {
-        Kind::Dt => Word::Text(b"dt"),
-        Kind::Er => Word::Text(b"er"),
-        Kind::Erq => Word::Text(b"erq"),
-        Kind::Erp => Word::Text(b"erp"),
-    }
-}
-
 /// The word of whom was heard of.
 fn table_word(table: TableKind) -> Word<'static>
     ensures { word_text result ≡ table_word table }
@@ -658,14 +646,4 @@ fn identifier_word(identifier: Option<u16>) -> Word<'static>
         Some(identifier) => Word::Identifier(identifier),
         None => Word::Text(b"-"),
     }
-}
-
-/// The word of octets, which is `-` for none.
-fn octets_word(octets: &[u8]) -> Word<'_>
-    ensures { word_text result ≡ octets_word octets.now }
-{
-    if octets.is_empty() {
-        return Word::Text(b"-");
-    }
-    Word::Octets(octets)
 }

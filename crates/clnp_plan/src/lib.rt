@@ -17,7 +17,7 @@ pub use journal::{
     Telling, injection_text, journal_text, late_text, loss_text, nobody_text, push_end,
     receipt_text, resize_text, transmission_text, void_text,
 };
-pub use line::{Word, on_or_off, push_line, push_words, target_text};
+pub use line::{Word, kind_word, octets_word, on_or_off, push_line, push_words, target_text};
 pub use note::{Note, Why};
 pub use output::{Output, Sending};
 pub use pdu_header;

@@ -1,11 +1,11 @@
 //! Lines that are written: words separated by one space, each line ended by `\n`.
 ghost use Rattle.std.specs.Prelude.{◌≡◌, ◌++◌, map, take, length, OnOk, OnErr};
-ghost use Rattle.std.specs.Fmt.{decimal};
 ghost use Rattle.std.specs.List.{flat_map};
-ghost use Rattle.clnp_plan.specs.Journal.{behind_space, line_of, on_or_off, target_text};
+ghost use Rattle.clnp_plan.specs.Journal.{behind_space, kind_word, line_of, octets_word, on_or_off, target_text};
 ghost use Rattle.clnp_plan.specs.Words.{word_text};
 
-use pdu_header::clnp_base::{NoMemory, push, push_decimal, push_hex};
+use pdu_header::Kind;
+use pdu_header::clnp_base::{NoMemory, push, push_decimal, push_hex, push_number};
 use pdu_header::nsap::{Address, Prefix, Target};
 
 /// A word of a line.
@@ -92,7 +92,7 @@ fn push_word(word: Word<'_>, out: &mut Vec<u8>) -> Result<(), NoMemory>
     match word {
         Word::Text(text) => push(text, out),
         Word::Number(number) => push_decimal(number, out),
-        Word::KeyedNumber(key, number) => push_keyed(key, number, out),
+        Word::KeyedNumber(key, number) => push_number(key, number, out),
         Word::Octet(octet) => push_hex(&[octet], out),
         Word::Identifier(identifier) => push_hex(&identifier.to_be_bytes(), out),
         Word::Octets(octets) => push_hex(octets, out),
@@ -103,19 +103,10 @@ fn push_word(word: Word<'_>, out: &mut Vec<u8>) -> Result<(), NoMemory>
         Word::Address(address) => push_hex(address.as_bytes(), out),
         Word::Prefix(prefix) => prefix.push_text(out),
         Word::Pattern(len, start) => {
-            push_keyed(b"pat:", u64::from(len), out)?;
-            push_keyed(b":", u64::from(start), out)
+            push_number(b"pat:", u64::from(len), out)?;
+            push_number(b":", u64::from(start), out)
         }
     }
-}
-
-/// Appends a number behind a key; where memory is refused, some of it stands behind what was there.
-fn push_keyed(key: &[u8], number: u64, out: &mut Vec<u8>) -> Result<(), NoMemory>
-    ensures written { OnOk result (out.new.items ≡ out.old.items ++ (key.now ++ decimal number)) }
-    ensures kept { OnErr result (take (length out.old.items) out.new.items ≡ out.old.items) }
-{
-    push(key, out)?;
-    push_decimal(number, out)
 }
 
 /// The word `on`, or `off`.
@@ -138,4 +129,26 @@ pub fn target_text(target: &Target) -> Word<'_>
         Target::EndSystems => Word::Text(b"es"),
         Target::Routers => Word::Text(b"is"),
     }
+}
+
+/// The word of a kind of PDU.
+pub fn kind_word(kind: Kind) -> Word<'static>
+    ensures { word_text result ≡ kind_word kind }
+{
+    match kind {
+        Kind::Dt => Word::Text(b"dt"),
+        Kind::Er => Word::Text(b"er"),
+        Kind::Erq => Word::Text(b"erq"),
+        Kind::Erp => Word::Text(b"erp"),
+    }
+}
+
+/// The word of octets, which is `-` for none.
+pub fn octets_word(octets: &[u8]) -> Word<'_>
+    ensures { word_text result ≡ octets_word octets.now }
+{
+    if octets.is_empty() {
+        return Word::Text(b"-");
+    }
+    Word::Octets(octets)
 }

@@ -19,25 +19,32 @@ Informs text before after rose status =
     ((status ≡ Done) × Appends before after text) ⊎ ((status ≡ WriteFault) × (rose × AppendsFront before after text))
 
 -- what the words come to: a text about the program, with the source as it was; or a command
-abbrev pub AnswersOn : Option (List ℕ) → (words : List (List ℕ)) → (left_before left_after before after : Option (List ℕ)) → (same_source same_sink read_rose write_rose : Type 0) → Status → Type 0
+abbrev pub AnswersOn : Option (List ℕ) → (words : List (List ℕ))
+    → (left_before left_after before after : Option (List ℕ)) → (same_source same_sink read_rose write_rose : Type 0)
+    → Status → Type 0
 AnswersOn (Some text) words left_before left_after before after same_source same_sink read_rose write_rose status =
     Informs text before after write_rose status × same_source
 AnswersOn None words left_before left_after before after same_source same_sink read_rose write_rose status =
     Serves words left_before left_after before after same_source same_sink read_rose write_rose status
 
-abbrev pub Answers : (words : List (List ℕ)) → (left_before left_after before after : Option (List ℕ)) → (same_source same_sink read_rose write_rose : Type 0) → Status → Type 0
+abbrev pub Answers : (words : List (List ℕ)) → (left_before left_after before after : Option (List ℕ))
+    → (same_source same_sink read_rose write_rose : Type 0) → Status → Type 0
 Answers words left_before left_after before after same_source same_sink read_rose write_rose status =
     AnswersOn (information words) words left_before left_after before after same_source same_sink read_rose write_rose status
 
 -- what becomes of the board and the clock: a text about the program leaves them as they are
-abbrev pub RunsOn : Option (List ℕ) → (words : List (List ℕ)) → (left_before left_after before after : Option (List ℕ)) → (ports_before ports_after : List PortState) → (moments_before moments_after : Option (List ℕ)) → (same_sink same_board same_clock read_rose write_rose : Type 0) → Status → Type 0
+abbrev pub RunsOn : Option (List ℕ) → (words : List (List ℕ)) → (left_before left_after before after : Option (List ℕ))
+    → (ports_before ports_after : List PortState) → (moments_before moments_after : Option (List ℕ))
+    → (same_sink same_board same_clock read_rose write_rose : Type 0) → Status → Type 0
 RunsOn (Some text) words left_before left_after before after ports_before ports_after moments_before moments_after same_sink same_board same_clock read_rose write_rose status =
     same_board × same_clock
 RunsOn None words left_before left_after before after ports_before ports_after moments_before moments_after same_sink same_board same_clock read_rose write_rose status =
     RunsAs (command_of words) left_before left_after before after ports_before ports_after moments_before moments_after
     same_sink same_board same_clock read_rose write_rose status
 
-abbrev pub Runs : (words : List (List ℕ)) → (left_before left_after before after : Option (List ℕ)) → (ports_before ports_after : List PortState) → (moments_before moments_after : Option (List ℕ)) → (same_sink same_board same_clock read_rose write_rose : Type 0) → Status → Type 0
+abbrev pub Runs : (words : List (List ℕ)) → (left_before left_after before after : Option (List ℕ))
+    → (ports_before ports_after : List PortState) → (moments_before moments_after : Option (List ℕ))
+    → (same_sink same_board same_clock read_rose write_rose : Type 0) → Status → Type 0
 Runs words left_before left_after before after ports_before ports_after moments_before moments_after same_sink same_board same_clock read_rose write_rose status =
     RunsOn (information words) words left_before left_after before after ports_before ports_after moments_before moments_after
     same_sink same_board same_clock read_rose write_rose status

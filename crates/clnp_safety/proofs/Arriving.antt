@@ -19,20 +19,21 @@ use Rattle.clnp_network.specs.Scenario.Scenario.{IsFit, Plan}
 use Rattle.clnp_machine.specs.Reassembly.Arrival.{data_len, same_key}
 use Rattle.clnp_machine.specs.Reassembly.Buffer as buffer
 use Rattle.clnp_machine.specs.Reassembly.Buffer.{Answer, Buffer, buffer_of, held, is_whole, size_of, without}
-use Rattle.clnp_machine.specs.Unit as unit
-use Rattle.clnp_machine.specs.Unit.{IsCarriable, Packet, cut, value_of}
+use Rattle.clnp_machine.specs.Unit.{DataUnit, IsCarriable, Packet, cut, value_of}
 use Rattle.clnp_machine.specs.Content.{Content, IsCarried, Labelled, Esis, Unlabelled}
-use Rattle.clnp_machine.specs.EsisTables.declared.fact.Place.{Place}
+use Rattle.clnp_machine.specs.EsisTables.declared.fact.Neighbour.{Neighbour}
 use Rattle.clnp_machine.specs.Esis.{esis_comes, is_silent, tells_of_itself}
 use Rattle.clnp_machine.specs.System.{SystemState, Effect, FrameComes, Transmits, table_limits}
 use Rattle.clnp_machine.specs.Local.{Deed, and_then, data_in, discard, echo_ask, hand_up, is_all, is_answer, is_own, octet_of, offer, offered, receive, takes_in, takes_reply, tells}
-use Rattle.clnp_machine.specs.Step.{Hop, Way, content_comes, discards, ends_at, forwarded, goes_on, goes_on_by, goes_on_way, hop_by, is_asked_for, is_named, is_redirected, loss_at, options_behind, packet_comes, passes_by, pieces_go_on, redirects, responds, towards, transmissions, way_of}
-use Rattle.clnp_machine.specs.Steps.{IsRangeOf, KnowsAddresses, NotesOnly}
+use Rattle.clnp_machine.specs.Step.{content_comes, discards, ends_at, forwarded, goes_on, goes_on_by, goes_on_way, hop_by, is_asked_for, is_named, is_redirected, loss_at, options_behind, packet_comes, passes_by, pieces_go_on, redirects, responds, towards, transmissions, way_of}
+use Rattle.clnp_machine.specs.declared.way.Hop.{Hop}
+use Rattle.clnp_machine.specs.declared.way.Way.{Way}
+use Rattle.clnp_machine.specs.EveryStep.{IsRangeOf, KnowsAddresses, NotesOnly}
 use Rattle.clnp_machine.specs.Told.{TellsNoInterference}
 use Rattle.clnp_machine.specs.ClnpPlan.declared.config.PortConfig.{PortConfig}
 use Rattle.clnp_machine.specs.ClnpPlan.declared.config.Role.{Role}
 use Rattle.clnp_machine.specs.ClnpPlan.declared.config.Role.TheVariants.{Host, Router}
-use Rattle.clnp_network.specs.World.{World}
+use Rattle.clnp_network.specs.LabelledNetwork.{LabelledNetwork}
 use Rattle.clnp_network.specs.Run.{Entry}
 use Rattle.clnp_network.specs.Safe.{ReportsStand}
 use Rattle.clnp_safety.specs.Growth.{IsFront}
@@ -47,16 +48,16 @@ use Rattle.clnp_safety.proofs.Joining.{joined_is_unit, whole_is_unit}
 use Rattle.clnp_safety.proofs.Units.{range_sooner}
 
 -- a packet in a frame comes in time to a system at a moment
-abbrev pub ContentInTime : (plan : Plan) (units : List unit.Unit) (here : ℕ) → Content → Type 0
+abbrev pub ContentInTime : (plan : Plan) (units : List DataUnit) (here : ℕ) → Content → Type 0
 ContentInTime plan units here (Labelled packet following) = ComesInTime plan units here packet
 ContentInTime plan units here (Esis value following) = Unit {0}
 ContentInTime plan units here (Unlabelled octets) = Unit {0}
 
-pub later_range : (before units : List unit.Unit) (p : Packet) → IsFront before units → IsRangeOf before p → IsRangeOf units p
+pub later_range : (before units : List DataUnit) (p : Packet) → IsFront before units → IsRangeOf before p → IsRangeOf units p
 later_range before units p front h = subst (λ us. IsRangeOf us p) (sym front.1) (range_sooner before front.0 p h)
 
 -- a network that is sound before a move, and the units so far
-module _ (laws : StepLaws) (plan : Plan) (fit : IsFit plan) (past : List Entry) (w : World) (h : WorldIsSound plan past w) (stood : ReportsStand w) (units : List unit.Unit)
+module _ (laws : StepLaws) (plan : Plan) (fit : IsFit plan) (past : List Entry) (w : LabelledNetwork) (h : WorldIsSound plan past w) (stood : ReportsStand w) (units : List DataUnit)
     (front : IsFront w.units units) (made : UnitsAreSound plan past units) (place : ℕ) (s : SystemState)
     (sound : SystemIsSound plan units place s) (pending : AllByRecursion (IsPending past w.units place s.configuration.name) s.pending) where
   -- what a deed leaves is sound, and what it tells is honest
@@ -100,8 +101,8 @@ module _ (laws : StepLaws) (plan : Plan) (fit : IsFit plan) (past : List Entry) 
       may_then : MayDo plan units place then
       may_then = record { sound = left; rest = made.rest }
 
-      takes_soundly : p.unit.kind ≡ Erp → (found : Option unit.Unit)
-          → ((request : unit.Unit) → found ≡ Some request
+      takes_soundly : p.unit.kind ≡ Erp → (found : Option DataUnit)
+          → ((request : DataUnit) → found ≡ Some request
           → IsPending past w.units place s.configuration.name request × (is_answer p.unit.source p.unit.destination p.unit.octets request ≡ true))
           → Does (takes_reply then p.unit.source p.unit.destination p.unit.octets found)
       takes_soundly erp None is = tells_soundly plan past w s.configuration.name units place then (note.Stray p.unit.source p.unit.destination) may_then tt
@@ -175,7 +176,7 @@ module _ (laws : StepLaws) (plan : Plan) (fit : IsFit plan) (past : List Entry) 
             let it = unit_sound plan past units u made live.sound.made in
             let len : data_len joined.shape ≡ length u.octets = ap data_len live.sound.shape ∙ (let total = it.total in omega arith) in
             joined_is_unit units u it.first_position joined live.sound.kept len whole
-            ∙ ap (λ (v : unit.Unit). v.octets) (unit_in laws plan fit past units made p packet carriable s.moment time identifier identified joined live same)
+            ∙ ap (λ (v : DataUnit). v.octets) (unit_in laws plan fit past units made p packet carriable s.moment time identifier identified joined live same)
 
         is_joined : buffer.answer (table_limits s) s.moment (offered p []) s.buffers ≡ buffer.Whole
             → Does (takes_in s (Labelled p []) (offered p []) kept buffer.Whole)
@@ -237,7 +238,7 @@ module _ (laws : StepLaws) (plan : Plan) (fit : IsFit plan) (past : List Entry) 
         AllByRecursion-map_any (NotesOnly (IsHonest plan past w s.configuration.name)) (λ piece. Transmits hop.port hop.target piece) pieces (λ piece. tt)
 
     -- with the options that the router leaves
-    module _ (came : Place) (options : List Parameter) where
+    module _ (came : Neighbour) (options : List Parameter) where
       redirects_note_nothing : (way : Way) → AllByRecursion (NotesOnly (IsHonest plan past w s.configuration.name)) (redirects s came p options way)
       redirects_note_nothing way = elim (cases_Bool (is_redirected s came p options way)) [ inl wanted ↦ rw wanted (tt, tt) | inr none ↦ rw none tt ]
 
@@ -264,10 +265,10 @@ module _ (laws : StepLaws) (plan : Plan) (fit : IsFit plan) (past : List Entry) 
       goes_on_way_soundly (Some way) =
           elim (cases_Bool (is_complete options && not (ends_at (towards p.unit.destination (target_of options)) way.title))) [
             | inl off ↦ rw off (is_discarded _)
-            | inr there ↦ rw there (goes_on_by_soundly way (slice_get s.attached.ports way.place.port))
+            | inr there ↦ rw there (goes_on_by_soundly way (slice_get s.attached.ports way.neighbour.port))
           ]
 
-    goes_on_soundly : (came : Place) → Gives (goes_on s came p [])
+    goes_on_soundly : (came : Neighbour) → Gives (goes_on s came p [])
     goes_on_soundly came =
         let options = options_behind s p.options in
         elim (cases_Bool (is_complete p.options && not (is_named s (target_of p.options)))) [
@@ -275,12 +276,12 @@ module _ (laws : StepLaws) (plan : Plan) (fit : IsFit plan) (past : List Entry) 
           | inr named ↦ rw named (goes_on_way_soundly came options (way_of s (towards p.unit.destination (target_of options))))
         ]
 
-    passes_soundly : (role : Role) (came : Place) → Gives (passes_by role s came p [])
+    passes_soundly : (role : Role) (came : Neighbour) → Gives (passes_by role s came p [])
     passes_soundly Host came =
         deed_is_sound plan past w s.configuration.name units place laws _ (tells_soundly plan past w s.configuration.name units place s (note.NotMine p.unit.destination) may tt)
     passes_soundly Router came = goes_on_soundly came
 
-    packet_is_sound : (came : Place) → ComesInTime plan units s.moment p → Gives (packet_comes s came p [])
+    packet_is_sound : (came : Neighbour) → ComesInTime plan units s.moment p → Gives (packet_comes s came p [])
     packet_is_sound came time =
         elim (cases_Bool (p.lifetime == 0)) [
           | inl over ↦ rw over (is_discarded _)
@@ -299,14 +300,14 @@ module _ (laws : StepLaws) (plan : Plan) (fit : IsFit plan) (past : List Entry) 
   told_knows : (t : SystemState) (port : ℕ) (snpa : List ℕ) → KnowsAddresses t → KnowsAddresses (tells_of_itself t port snpa).after
   told_knows t port snpa known = elim (cases_Bool (is_silent t)) [ inl silent ↦ rw silent known | inr says ↦ rw says known ]
 
-  response_knows : (t : SystemState) (from : Place) (to_group : Bool) (p : Packet) → KnowsAddresses t → KnowsAddresses (responds t from to_group p).after
+  response_knows : (t : SystemState) (from : Neighbour) (to_group : Bool) (p : Packet) → KnowsAddresses t → KnowsAddresses (responds t from to_group p).after
   response_knows t from to_group p known =
       elim (cases_Bool (is_asked_for t.configuration.role t to_group p)) [
         | inl asked ↦ rw asked (told_knows t from.port from.snpa known)
         | inr other ↦ rw other known
       ]
 
-  pub arrival_is_sound : (from : Place) (to_group : Bool) (content : Content) → IsAddress from.snpa → Carries (IsRangeOf w.units) content
+  pub arrival_is_sound : (from : Neighbour) (to_group : Bool) (content : Content) → IsAddress from.snpa → Carries (IsRangeOf w.units) content
       → IsCarried content → ContentInTime plan units s.moment content → Gives (content_comes s from to_group content)
   arrival_is_sound from to_group (Labelled p following) sender carries carried time =
       let comes = packet_comes s from p following in

@@ -16,14 +16,13 @@ use Rattle.clnp_machine.specs.ClnpPlan.declared.note.Note.{Note}
 use Rattle.clnp_machine.specs.ClnpPlan.declared.note.Note.TheVariants.{Sent}
 use Rattle.clnp_network.specs.Scenario.Scenario.{Plan, IsFit}
 use Rattle.clnp_network.specs.Scenario.declared.event.Move.{Move}
-use Rattle.clnp_machine.specs.Unit as unit
-use Rattle.clnp_machine.specs.Unit.{DeclaredAt}
+use Rattle.clnp_machine.specs.Unit.{DataUnit, DeclaredAt}
 use Rattle.clnp_machine.specs.System.{SystemState, Input, AsksToSend, AsksForEcho, Effect}
 use Rattle.clnp_machine.specs.Local.{echo_ask, make, makes, refusal, sent_note, unit_of, unless_refused}
 use Rattle.clnp_machine.specs.Step.{effect_of, step}
-use Rattle.clnp_machine.specs.Steps.{IsFair, IsFresh, IsMadeFor, IsNoRestart, NotesOnly, RestartsNothing, WasPendingOrMade, moment_after}
+use Rattle.clnp_machine.specs.EveryStep.{IsFair, IsFresh, IsMadeFor, IsNoRestart, NotesOnly, RestartsNothing, WasPendingOrMade, moment_after}
 use Rattle.clnp_machine.specs.Told.{NoteIsQuiet}
-use Rattle.clnp_network.specs.World.{World, Step, takes_effect, comes, comes_to, asks_role, asks_system, asks}
+use Rattle.clnp_network.specs.LabelledNetwork.{LabelledNetwork, Step, takes_effect, comes, comes_to, asks_role, asks_system, asks}
 use Rattle.clnp_network.specs.Run.{Entry}
 use Rattle.clnp_network.specs.Safe.{IsSend, NoRefusal, SaysNoRestart, SaysRequested}
 use Rattle.clnp_safety.specs.Invariant.{IsMadeOn, IsPending, SystemStands, UnitIsSound, UnitsAreSound, WorldIsSound}
@@ -40,20 +39,20 @@ use Rattle.clnp_safety.proofs.Moves.{MoveIsSound, nothing_is_sound, sound_since_
 use Rattle.clnp_safety.proofs.Honest.{ComesSoundly, NoteIsHonest, NoteIsSteady}
 
 -- the step by which a unit is sent
-abbrev pub sending : World → ℕ → SystemState → unit.Unit → Step
+abbrev pub sending : LabelledNetwork → ℕ → SystemState → DataUnit → Step
 sending w place s u = takes_effect w place (effect_of (makes s u))
 
-pub lines_are_quiet : StepLaws → (w : World) (place : ℕ) (s : SystemState) (u : unit.Unit) → AllByRecursion (LineIs (λ name. NoteIsQuiet)) (sending w place s u).lines
+pub lines_are_quiet : StepLaws → (w : LabelledNetwork) (place : ℕ) (s : SystemState) (u : DataUnit) → AllByRecursion (LineIs (λ name. NoteIsQuiet)) (sending w place s u).lines
 lines_are_quiet laws w place s u =
     takes_effect_notes NoteIsQuiet w place (effect_of (makes s u))
     (outputs_note laws NoteIsQuiet (λ note h. h) (makes s u).after (makes s u).actions (tt, (tt, tt)))
 
 -- what lines say of a unit that was asked for and made: nothing was refused, and it was sent
-record IsAskedIn (now : ℕ) (name : List ℕ) (lines : List Line) (u : unit.Unit) : Type 0 where
+record IsAskedIn (now : ℕ) (name : List ℕ) (lines : List Line) (u : DataUnit) : Type 0 where
   unrefused : NoRefusal lines
   said : Contains lines (Noted now name (sent_note u))
 
-asked_in : StepLaws → (w : World) (place : ℕ) (s : SystemState) (u : unit.Unit) (refused : Option Note)
+asked_in : StepLaws → (w : LabelledNetwork) (place : ℕ) (s : SystemState) (u : DataUnit) (refused : Option Note)
     → AllByRecursion (IsAskedIn s.moment s.configuration.name (takes_effect w place (effect_of (unless_refused refused s u))).lines)
     (effect_of (unless_refused refused s u)).units
 asked_in laws w place s u None = (
@@ -63,12 +62,12 @@ asked_in laws w place s u None = (
 asked_in laws w place s u (Some note) = tt
 
 -- that a request was sent says that it was made
-says_requested : (now : ℕ) (name : List ℕ) (u : unit.Unit) → u.kind ≡ Erq → SaysRequested name u.number u.source u.destination (Noted now name (sent_note u))
+says_requested : (now : ℕ) (name : List ℕ) (u : DataUnit) → u.kind ≡ Erq → SaysRequested name u.number u.source u.destination (Noted now name (sent_note u))
 says_requested now name u erq =
     subst (λ kind. SaysRequested name u.number u.source u.destination (Noted now name (Sent kind u.number u.identifier u.source u.destination (length u.octets))))
     (sym erq) (refl, refl, refl, refl)
 
-module _ (laws : StepLaws) (plan : Plan) (fit : IsFit plan) (past : List Entry) (move : Move) (w : World) (h : WorldIsSound plan past w) where
+module _ (laws : StepLaws) (plan : Plan) (fit : IsFit plan) (past : List Entry) (move : Move) (w : LabelledNetwork) (h : WorldIsSound plan past w) where
   module _ (place : ℕ) (s : SystemState) (there : slice_get w.systems place ≡ Some s) (kind : Kind) (from to octets : List ℕ) (ask : Ask) (input : Input)
       (is : effect_of (make s kind from to octets ask) ≡ step s input) (fair : IsFair input)
       (comes : ComesSoundly w.units input) (steady : RestartsNothing input)
@@ -86,7 +85,7 @@ module _ (laws : StepLaws) (plan : Plan) (fit : IsFit plan) (past : List Entry) 
     abbrev then : List Entry
     then = past ++ entry ∷ []
 
-    abbrev later : List unit.Unit
+    abbrev later : List DataUnit
     later = w.units ++ effect.units
 
     it : SystemStands plan past w.units w.units place s
@@ -108,7 +107,7 @@ module _ (laws : StepLaws) (plan : Plan) (fit : IsFit plan) (past : List Entry) 
     quiet : (name : List ℕ) → AllByRecursion (SaysNoRestart name) taken.lines
     quiet name = lines_say_no_restart name taken.lines (takes_effect_notes IsNoRestart w place effect (laws.steps.no_restart s input steady))
 
-    module _ (founded : (u : unit.Unit) → IsMadeFor input u → NoRefusal taken.lines → IsMadeOn plan then w.units u.kind u) where
+    module _ (founded : (u : DataUnit) → IsMadeFor input u → NoRefusal taken.lines → IsMadeOn plan then w.units u.kind u) where
       new_units : AllByRecursion (UnitIsSound plan then w.units) effect.units
       new_units =
           AllByRecursion-both (IsFresh s (moment_after s input)) (λ u. IsMadeOn plan then w.units u.kind u) (UnitIsSound plan then w.units)
@@ -130,7 +129,7 @@ module _ (laws : StepLaws) (plan : Plan) (fit : IsFit plan) (past : List Entry) 
       }
 
       -- a request that is made now
-      requested : (request : unit.Unit) → Contains effect.units request → request.kind ≡ Erq → IsPending then later place s.configuration.name request
+      requested : (request : DataUnit) → Contains effect.units request → request.kind ≡ Erq → IsPending then later place s.configuration.name request
       requested request made erq =
           let was = AllByRecursion-contains (IsAskedIn s.moment s.configuration.name taken.lines) effect.units request made asked in
           let fresh = AllByRecursion-contains (IsFresh s (moment_after s input)) effect.units request made (laws.steps.fresh s input) in

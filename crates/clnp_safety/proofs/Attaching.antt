@@ -6,13 +6,13 @@ use Rattle.clnp_machine.specs.ClnpPlan.Configuration.{IsPort, IsWithin}
 use Rattle.clnp_machine.specs.Attachment.{IsAttached}
 use Rattle.clnp_machine.specs.Change.{PortIsAt, PortTakes, RouteIsGone, RouteIsSet}
 use Rattle.clnp_machine.specs.System.{SystemState, Input, IsChanged}
-use Rattle.clnp_machine.specs.Steps.{IsFairChange}
-use Rattle.clnp_network.specs.World.{World}
+use Rattle.clnp_machine.specs.EveryStep.{IsFairChange}
+use Rattle.clnp_network.specs.LabelledNetwork.{LabelledNetwork}
 use Rattle.clnp_safety.proofs.EveryMove.{IsOfNow}
 use Rattle.clnp_safety.proofs.Events.{ChangesFormed}
 
 -- where it is in form, and goes by the network as it is
-pub is_fair_change : (w : World) (s : SystemState) → AllByRecursion (IsWithin 512 65535) w.mtus → IsAttached s.attached → (input : Input)
+pub is_fair_change : (w : LabelledNetwork) (s : SystemState) → AllByRecursion (IsWithin 512 65535) w.mtus → IsAttached s.attached → (input : Input)
     → ChangesFormed input → IsOfNow w s input → IsFairChange s input
 is_fair_change w s mtus is (IsChanged (PortIsAt number port)) formed now = (
   record {

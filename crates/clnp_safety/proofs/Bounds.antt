@@ -12,13 +12,12 @@ use Rattle.clnp_network.specs.Scenario.declared.event.Move.{Move}
 use Rattle.clnp_machine.specs.PduHeader.Reading.{rest_of}
 use Rattle.clnp_machine.specs.EsisPdus.Reading as esis_reading
 use Rattle.clnp_machine.specs.EsisPdus.Rules.{why_refused}
-use Rattle.clnp_machine.specs.Unit as unit
-use Rattle.clnp_machine.specs.Unit.{Maker, DeclaredAt, Packet}
+use Rattle.clnp_machine.specs.Unit.{DataUnit, Maker, DeclaredAt, Packet}
 use Rattle.clnp_machine.specs.Content.{Content, Labelled, Esis, Unlabelled, esis_value_in, is_accepted, packet_from_outside, value_in}
 use Rattle.clnp_machine.specs.System.{SystemState, Input, FrameComes, Output, Transmits, SendsEsis, Notes, Effect}
 use Rattle.clnp_machine.specs.Step.{step}
-use Rattle.clnp_machine.specs.Steps.{GoesOnOf, IsWithinBudget, SendsRangesOrGoesOn}
-use Rattle.clnp_network.specs.World.{World, Copy, copy_from, copy_from_outside, frame_to, sends_frame, put_out, takes_effect, with_effect, states_from, first_world}
+use Rattle.clnp_machine.specs.EveryStep.{GoesOnOf, IsWithinBudget, SendsRangesOrGoesOn}
+use Rattle.clnp_network.specs.LabelledNetwork.{LabelledNetwork, Copy, copy_from, copy_from_outside, frame_to, sends_frame, put_out, takes_effect, with_effect, states_from, first_world}
 use Rattle.clnp_network.specs.Run.{world_after}
 use Rattle.clnp_network.specs.Safe.{IsWithinBudgets, IsWithinLifetimes, MeetsLifetime}
 use Rattle.clnp_safety.specs.StepLaws.{StepLaws}
@@ -44,8 +43,8 @@ goes_on_within : (s : SystemState) (port : ℕ) (input : Input) (p : Packet) →
 goes_on_within s port (FrameComes at sender to_group (Labelled came following)) p comes on = lives_within s port came p on comes
 goes_on_within s port _ p comes on = absurd on
 
-frame_comes_within : (w : World) (at : ℕ) (copy : Copy) → slice_get w.copies at ≡ Some copy → IsWithinLifetimes w
-    → (v : World) → Follows w v → (s : SystemState) → ComesWithin (frame_to s copy)
+frame_comes_within : (w : LabelledNetwork) (at : ℕ) (copy : Copy) → slice_get w.copies at ≡ Some copy → IsWithinLifetimes w
+    → (v : LabelledNetwork) → Follows w v → (s : SystemState) → ComesWithin (frame_to s copy)
 frame_comes_within w at copy there k v follows s = AllByRecursion-slice_get Bounded w.copies at copy there k
 
 copy_meets : (found : Option PortConfig) (target : Target) (maker : Maker) (birth : ℕ) (content : Content) → MeetsLifetime content
@@ -53,7 +52,7 @@ copy_meets : (found : Option PortConfig) (target : Target) (maker : Maker) (birt
 copy_meets None target maker birth content h = tt
 copy_meets (Some port) target maker birth content h = (h, tt)
 
-frame_meets : (system : SystemState) (v : World) (port : ℕ) (target : Target) (maker : Maker) (birth : ℕ) (content : Content) → MeetsLifetime content
+frame_meets : (system : SystemState) (v : LabelledNetwork) (port : ℕ) (target : Target) (maker : Maker) (birth : ℕ) (content : Content) → MeetsLifetime content
     → IsWithinLifetimes v → Keeps IsWithinLifetimes AnyLine (sends_frame system v port target maker birth content)
 frame_meets system v port target maker birth content h k = record {
   world = AllByRecursion-append Bounded v.copies (copy_from (slice_get system.attached.ports port) target maker birth content) k
@@ -61,11 +60,11 @@ frame_meets system v port target maker birth content h k = record {
   lines = (tt, tt);
 }
 
-module _ (s : SystemState) (input : Input) (comes : ComesWithin input) (units : List unit.Unit) where
+module _ (s : SystemState) (input : Input) (comes : ComesWithin input) (units : List DataUnit) where
   sent_within : (port : ℕ) (target : Target) (p : Packet) → SendsRangesOrGoesOn s input units (Transmits port target p) → p.hops + p.lifetime ≤ p.unit.lifetime
   sent_within port target p sends = elim sends [ inl new ↦ new.lifetime | inr on ↦ goes_on_within s port input p comes on ]
 
-  put_out_meets : (system : SystemState) (output : Output) → SendsRangesOrGoesOn s input units output → (v : World) → IsWithinLifetimes v
+  put_out_meets : (system : SystemState) (output : Output) → SendsRangesOrGoesOn s input units output → (v : LabelledNetwork) → IsWithinLifetimes v
       → Keeps IsWithinLifetimes AnyLine (put_out system v output)
   put_out_meets system (Notes note) sends v k = record { world = k; lines = (tt, tt) }
   put_out_meets system (Transmits port target packet) sends v k =
@@ -73,13 +72,13 @@ module _ (s : SystemState) (input : Input) (comes : ComesWithin input) (units : 
   put_out_meets system (SendsEsis port target value) sends v k =
       frame_meets system v port target (DeclaredAt system.place) system.moment (Esis value []) tt k
 
-step_meets : StepLaws → (w : World) (place : ℕ) (s : SystemState) (input : Input) → slice_get w.systems place ≡ Some s → ComesWithin input
+step_meets : StepLaws → (w : LabelledNetwork) (place : ℕ) (s : SystemState) (input : Input) → slice_get w.systems place ≡ Some s → ComesWithin input
     → IsOfNow w s input → IsWithinLifetimes w → Keeps IsWithinLifetimes AnyLine (takes_effect w place (step s input))
 step_meets laws w place s input there comes at k =
     let effect : Effect = step s input in
     keeps-put_all_out IsWithinLifetimes AnyLine effect.after effect.outputs
     (AllByRecursion-implies (SendsRangesOrGoesOn s input effect.units)
-    (λ output. (v : World) → IsWithinLifetimes v → Keeps IsWithinLifetimes AnyLine (put_out effect.after v output))
+    (λ output. (v : LabelledNetwork) → IsWithinLifetimes v → Keeps IsWithinLifetimes AnyLine (put_out effect.after v output))
     (put_out_meets s input comes effect.units effect.after) effect.outputs (laws.steps.ranges s input))
     (with_effect w place effect) k
 
@@ -91,7 +90,7 @@ content_meets number moment octets true unrefused = omega arith
 content_meets number moment octets false true = tt
 content_meets number moment octets false false = tt
 
-outside_meets : (w : World) (subnet : ℕ) (sender : List ℕ) (target : Target) (octets : List ℕ) → AnyFrame sender octets
+outside_meets : (w : LabelledNetwork) (subnet : ℕ) (sender : List ℕ) (target : Target) (octets : List ℕ) → AnyFrame sender octets
     → IsWithinLifetimes w → IsWithinLifetimes (with_outside w subnet sender target octets)
 outside_meets w subnet sender target octets any k =
     AllByRecursion-append Bounded w.copies (copy_from_outside (length w.copies + 1) w.clock subnet sender target octets ∷ []) k
@@ -118,17 +117,17 @@ lifetimes_hold laws plan moves =
 
 -- Budgets.
 
-put_out_within : (system : SystemState) (output : Output) (v : World) → IsWithinBudgets v → Keeps IsWithinBudgets AnyLine (put_out system v output)
+put_out_within : (system : SystemState) (output : Output) (v : LabelledNetwork) → IsWithinBudgets v → Keeps IsWithinBudgets AnyLine (put_out system v output)
 put_out_within system (Notes note) v k = record { world = k; lines = (tt, tt) }
 put_out_within system (Transmits port target packet) v k = record { world = k; lines = (tt, tt) }
 put_out_within system (SendsEsis port target value) v k = record { world = k; lines = (tt, tt) }
 
-step_within : StepLaws → (w : World) (place : ℕ) (s : SystemState) (input : Input) → slice_get w.systems place ≡ Some s → AnyInput input → IsOfNow w s input
+step_within : StepLaws → (w : LabelledNetwork) (place : ℕ) (s : SystemState) (input : Input) → slice_get w.systems place ≡ Some s → AnyInput input → IsOfNow w s input
     → IsWithinBudgets w → Keeps IsWithinBudgets AnyLine (takes_effect w place (step s input))
 step_within laws w place s input there any at k =
     let effect : Effect = step s input in
     keeps-put_all_out IsWithinBudgets AnyLine effect.after effect.outputs
-    (AllByRecursion-any (λ output. (v : World) → IsWithinBudgets v → Keeps IsWithinBudgets AnyLine (put_out effect.after v output))
+    (AllByRecursion-any (λ output. (v : LabelledNetwork) → IsWithinBudgets v → Keeps IsWithinBudgets AnyLine (put_out effect.after v output))
     (put_out_within effect.after) effect.outputs)
     (with_effect w place effect)
     (all_set IsWithinBudget w.systems place effect.after k (laws.steps.budget s input (AllByRecursion-slice_get IsWithinBudget w.systems place s there k)))

@@ -11,17 +11,16 @@ use Rattle.clnp_machine.specs.Reassembly.declared.segment.Shape.{Shape}
 use Rattle.clnp_machine.specs.Reassembly.declared.table.TableLimits.{TableLimits}
 use Rattle.clnp_machine.specs.Reassembly.Arrival.{same_key, same_shape}
 use Rattle.clnp_machine.specs.Reassembly.Buffer.{Buffer, buffer_of, clashes, opened_by}
-use Rattle.clnp_machine.specs.Unit as unit
-use Rattle.clnp_machine.specs.Unit.{IsCarriable, Packet}
+use Rattle.clnp_machine.specs.Unit.{DataUnit, DeclaredAt, IsCarriable, Packet}
 use Rattle.clnp_machine.specs.Local.{header_size, identifier_in, offered}
-use Rattle.clnp_machine.specs.Steps.{IsRangeOf}
+use Rattle.clnp_machine.specs.EveryStep.{IsRangeOf}
 use Rattle.clnp_network.specs.Run.{Entry}
 use Rattle.clnp_safety.specs.Invariant.{BufferIsSound, IsOfUnit, Owns, UnitIsSound, UnitsAreSound}
 use Rattle.clnp_safety.specs.StepLaws.{StepLaws}
 use Rattle.clnp_safety.proofs.Units.{different_makers, same_unit}
 use Rattle.clnp_safety.proofs.Kept.{KeptIn, find_passes, same_key-true}
 
-pub unit_sound : (plan : Plan) (past : List Entry) (units : List unit.Unit) (u : unit.Unit) → UnitsAreSound plan past units → Contains units u
+pub unit_sound : (plan : Plan) (past : List Entry) (units : List DataUnit) (u : DataUnit) → UnitsAreSound plan past units → Contains units u
     → UnitIsSound plan past units u
 unit_sound plan past units u sound within =
     All-contains (UnitIsSound plan past units) units u (All-from_recursion (UnitIsSound plan past units) units sound.each) within
@@ -33,31 +32,31 @@ same_shape-like a b e =
     (eq-eqb a.kind b.kind (ap (λ shape. shape.kind) e)))
 
 -- the shape of a unit
-abbrev unit_shape : unit.Unit → Shape
+abbrev unit_shape : DataUnit → Shape
 unit_shape u = record { total = u.total; head_len = header_size u; kind = type_code u.kind }
 
-shape_offered : StepLaws → (units : List unit.Unit) (p : Packet) → IsRangeOf units p → (offered p []).shape ≡ unit_shape p.unit
+shape_offered : StepLaws → (units : List DataUnit) (p : Packet) → IsRangeOf units p → (offered p []).shape ≡ unit_shape p.unit
 shape_offered laws units p range = ap (λ n. record { total = p.unit.total; head_len = n; kind = type_code p.unit.kind }) (laws.headers.header p range.options)
 
 -- a buffer that is sound, and isn't due at a moment
-pub record IsLive (plan : Plan) (units : List unit.Unit) (here : ℕ) (buffer : Buffer Packet) : Type 0 where
+pub record IsLive (plan : Plan) (units : List DataUnit) (here : ℕ) (buffer : Buffer Packet) : Type 0 where
   pub sound : BufferIsSound plan units buffer
   pub lasts : here < buffer.deadline
 
 -- A packet comes to a system at its moment, here, while the clock of its unit's maker is there, and the two don't stand too far apart;
 -- all units of that maker were made until then, and this one not too long before.
-pub record ComesInTime (plan : Plan) (units : List unit.Unit) (here : ℕ) (p : Packet) : Type 0 where
+pub record ComesInTime (plan : Plan) (units : List DataUnit) (here : ℕ) (p : Packet) : Type 0 where
   pub there : ℕ
   pub near : here ≤ there + plan.limits.skew
   pub far : there ≤ here + plan.limits.skew
-  pub until : (v : unit.Unit) → Contains units v → v.maker ≡ p.unit.maker → v.made ≤ there
+  pub until : (v : DataUnit) → Contains units v → v.maker ≡ p.unit.maker → v.made ≤ there
   pub young : there ≤ p.unit.made + plan.limits.age
 
-module _ (laws : StepLaws) (plan : Plan) (fit : IsFit plan) (past : List Entry) (units : List unit.Unit) (made : UnitsAreSound plan past units)
+module _ (laws : StepLaws) (plan : Plan) (fit : IsFit plan) (past : List Entry) (units : List DataUnit) (made : UnitsAreSound plan past units)
     (p : Packet) (packet : IsRangeOf units p) (carriable : IsCarriable p) (here : ℕ) (time : ComesInTime plan units here p)
     (identifier : ℕ) (identified : p.unit.identifier ≡ Some identifier) where
   -- a unit of that maker that was made so long before or after it isn't that of a buffer that lasts
-  not_another : (buffer : Buffer Packet) (v : unit.Unit) → Contains units v → v.maker ≡ p.unit.maker → here < buffer.deadline
+  not_another : (buffer : Buffer Packet) (v : DataUnit) → Contains units v → v.maker ≡ p.unit.maker → here < buffer.deadline
       → buffer.opened ≤ v.made + plan.limits.age + plan.limits.skew → buffer.deadline ≤ buffer.opened + plan.limits.hold
       → (p.unit.made + plan.limits.reuse ≤ v.made → ⊥) × (v.made + plan.limits.reuse ≤ p.unit.made → ⊥)
   not_another buffer v within maker lasts opened deadline =
@@ -80,7 +79,7 @@ module _ (laws : StepLaws) (plan : Plan) (fit : IsFit plan) (past : List Entry) 
       let second = unit_sound plan past units p.unit made packet.unit in
       let owner : Owns plan second.place v.source = subst (Owns plan second.place) (sym (ap (λ key. key.from) keys)) second.owner in
       let one_place : first.place ≡ second.place = different_makers plan first.place second.place v.source fit first.owner owner in
-      let maker : v.maker ≡ p.unit.maker = first.maker ∙ ap unit.DeclaredAt one_place ∙ sym second.maker in
+      let maker : v.maker ≡ p.unit.maker = first.maker ∙ ap DeclaredAt one_place ∙ sym second.maker in
       let apart = not_another buffer v live.sound.made maker live.lasts live.sound.opened live.sound.deadline in
       elim (same_unit plan.limits.reuse units v p.unit identifier made.rest live.sound.made packet.unit maker (live.sound.identified ∙ ap Some number) identified) [
         | inl one ↦ one
@@ -107,7 +106,7 @@ module _ (laws : StepLaws) (plan : Plan) (fit : IsFit plan) (past : List Entry) 
       clashes_not (buffer_of (offered p []).key buffers)
       (λ buffer found. shape_in_buffer buffer (AllByRecursion-find (IsLive plan units here) has_key buffers buffer found live) (find_passes has_key buffers buffer found))
 
-  of_unit : (v : unit.Unit) → v ≡ p.unit → IsOfUnit units v (offered p [])
+  of_unit : (v : DataUnit) → v ≡ p.unit → IsOfUnit units v (offered p [])
   of_unit v same = record { packet = packet; carriable = carriable; unit = sym same; offered = refl }
 
   module _ (table : TableLimits) (hold : table.hold ≡ plan.limits.hold) (alive : 1 ≤ p.lifetime) where

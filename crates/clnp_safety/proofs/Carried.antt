@@ -20,14 +20,13 @@ use Rattle.clnp_network.specs.Scenario.Scenario.{IsFit, Plan, Subnetwork}
 use Rattle.clnp_network.specs.Scenario.declared.event.Event.{Event}
 use Rattle.clnp_network.specs.Scenario.declared.event.Event.TheVariants.{Send, Echo, Inject, Mtu, Route, Unroute, Port}
 use Rattle.clnp_network.specs.Scenario.declared.event.Move.{Move}
-use Rattle.clnp_machine.specs.Unit as unit
-use Rattle.clnp_machine.specs.Unit.{Maker, DeclaredAt, Outside, IsCarriable, Packet}
+use Rattle.clnp_machine.specs.Unit.{DataUnit, Maker, DeclaredAt, Outside, IsCarriable, Packet}
 use Rattle.clnp_machine.specs.Content.{Content, IsCarried, Labelled, Esis, Unlabelled, esis_value_in, is_accepted, packet_from_outside, value_in}
 use Rattle.clnp_machine.specs.Change.{PortTakes}
 use Rattle.clnp_machine.specs.System.{SystemState, Input, FrameComes, IsChanged, Output, Transmits, SendsEsis, Notes, Effect}
 use Rattle.clnp_machine.specs.Step.{step}
-use Rattle.clnp_machine.specs.Steps.{GoesOnOf, IsFair, IsRangeOf, KeepsAsOffered, KnowsAddresses, SendsCarriable, SendsEsisPdus, SendsRangesOrGoesOn}
-use Rattle.clnp_network.specs.World.{World, Copy, copy_from, copy_from_outside, frame_to, sends_frame, put_out, takes_effect, with_effect, first_world}
+use Rattle.clnp_machine.specs.EveryStep.{GoesOnOf, IsFair, IsRangeOf, KeepsAsOffered, KnowsAddresses, SendsCarriable, SendsEsisPdus, SendsRangesOrGoesOn}
+use Rattle.clnp_network.specs.LabelledNetwork.{LabelledNetwork, Copy, copy_from, copy_from_outside, frame_to, sends_frame, put_out, takes_effect, with_effect, first_world}
 use Rattle.clnp_network.specs.Run.{world_after}
 use Rattle.clnp_network.specs.Safe.{KeepsHeader, KeepsHeaders, RangeIn}
 use Rattle.clnp_safety.specs.Outside.{CarriesRangesOrOutside, IsMadeBy, OutsideOrRange, PduIsUnbroken, PdusAreUnbroken}
@@ -50,11 +49,11 @@ IsInForm (Esis value following) = Unit {0}
 IsInForm (Unlabelled octets) = Unit {0}
 
 -- a packet is of a unit from outside, or a range of one of some units
-abbrev IsOutsideOrOf : List unit.Unit → Packet → Type 0
+abbrev IsOutsideOrOf : List DataUnit → Packet → Type 0
 IsOutsideOrOf units p = (p.unit.maker ≡ Outside) ⊎ IsRangeOf units p
 
 -- a frame comes from an address, and carries what one may carry: what was made outside, or a range of a unit that was made
-pub record IsCarriedInForm (units : List unit.Unit) (copy : Copy) : Type 0 where
+pub record IsCarriedInForm (units : List DataUnit) (copy : Copy) : Type 0 where
   sender : IsAddress copy.sender
   carried : IsCarried copy.content
   form : IsInForm copy.content
@@ -70,25 +69,25 @@ pub record IsOfPlan (plan : Plan) (place : ℕ) (s : SystemState) : Type 0 where
   pub ports : HasItsPorts s
 
 -- these units were made, each frame is such, each system is that of the plan, and subnetworks take frames that are long enough
-pub record AllIsCarriedBeside (plan : Plan) (units : List unit.Unit) (w : World) : Type 0 where
+pub record AllIsCarriedBeside (plan : Plan) (units : List DataUnit) (w : LabelledNetwork) : Type 0 where
   pub made : w.units ≡ units
   pub copies : AllByRecursion (IsCarriedInForm units) w.copies
   pub each : (place : ℕ) (s : SystemState) → slice_get w.systems place ≡ Some s → IsOfPlan plan place s
   pub mtus : AreItsMtus plan w.mtus
 
-abbrev pub AllIsCarried : Plan → World → Type 0
+abbrev pub AllIsCarried : Plan → LabelledNetwork → Type 0
 AllIsCarried plan w = AllIsCarriedBeside plan w.units w
 
-all_beside : (plan : Plan) (units : List unit.Unit) (w : World) → AllIsCarriedBeside plan units w → AllIsCarried plan w
+all_beside : (plan : Plan) (units : List DataUnit) (w : LabelledNetwork) → AllIsCarriedBeside plan units w → AllIsCarried plan w
 all_beside plan units w h = subst (λ us. AllIsCarriedBeside plan us w) (sym h.made) h
 
-origin_later : (units more : List unit.Unit) (birth : ℕ) (content : Content) → RangeIn units birth content → RangeIn (units ++ more) birth content
+origin_later : (units more : List DataUnit) (birth : ℕ) (content : Content) → RangeIn units birth content → RangeIn (units ++ more) birth content
 origin_later units more birth (Labelled packet following) range = (range_sooner units more packet range.0, range.1, range.2)
 origin_later units more birth (Esis value following) range = range
 origin_later units more birth (Unlabelled octets) range = absurd range
 
 -- a copy stays such as more units are made
-copy_later : (units more : List unit.Unit) (copy : Copy) → IsCarriedInForm units copy → IsCarriedInForm (units ++ more) copy
+copy_later : (units more : List DataUnit) (copy : Copy) → IsCarriedInForm units copy → IsCarriedInForm (units ++ more) copy
 copy_later units more copy h = record {
   sender = h.sender;
   carried = h.carried;
@@ -99,25 +98,25 @@ copy_later units more copy h = record {
 
 -- What comes.
 
-abbrev PacketIsKnown : List unit.Unit → Content → Type 0
+abbrev PacketIsKnown : List DataUnit → Content → Type 0
 PacketIsKnown units (Labelled packet following) = IsOutsideOrOf units packet
 PacketIsKnown units (Esis value following) = Unit {0}
 PacketIsKnown units (Unlabelled octets) = Unit {0}
 
-abbrev FrameInForm : List unit.Unit → Input → Type 0
+abbrev FrameInForm : List DataUnit → Input → Type 0
 FrameInForm units (FrameComes port sender to_group content) = IsInForm content × PacketIsKnown units content
 FrameInForm units _ = Unit {0}
 
-abbrev pub ComesFairly : List unit.Unit → Input → Type 0
+abbrev pub ComesFairly : List DataUnit → Input → Type 0
 ComesFairly units input = IsFair input × FrameInForm units input × ChangesFormed input
 
-packet_is_known : (units : List unit.Unit) (maker : Maker) (birth : ℕ) (content : Content) → IsMadeBy maker content → (maker ≡ Outside) ⊎ RangeIn units birth content
+packet_is_known : (units : List DataUnit) (maker : Maker) (birth : ℕ) (content : Content) → IsMadeBy maker content → (maker ≡ Outside) ⊎ RangeIn units birth content
     → PacketIsKnown units content
 packet_is_known units maker birth (Labelled packet following) by origin = elim origin [ inl outside ↦ inl (sym by ∙ outside) | inr range ↦ inr range.0 ]
 packet_is_known units maker birth (Esis value following) by origin = tt
 packet_is_known units maker birth (Unlabelled octets) by origin = tt
 
-known_later : (units more : List unit.Unit) (content : Content) → PacketIsKnown units content → PacketIsKnown (units ++ more) content
+known_later : (units more : List DataUnit) (content : Content) → PacketIsKnown units content → PacketIsKnown (units ++ more) content
 known_later units more (Labelled packet following) known = elim known [ inl outside ↦ inl outside | inr range ↦ inr (range_sooner units more packet range) ]
 known_later units more (Esis value following) known = tt
 known_later units more (Unlabelled octets) known = tt
@@ -125,7 +124,7 @@ known_later units more (Unlabelled octets) known = tt
 abbrev IsBroughtFairly : List ℕ → List ℕ → Type 0
 IsBroughtFairly sender octets = IsAddress sender × IsBytes octets
 
-event_gives : (plan : Plan) (units : List unit.Unit) (event : Event) → IsFitEvent plan event → GivesOnly (ComesFairly units) IsBroughtFairly event
+event_gives : (plan : Plan) (units : List DataUnit) (event : Event) → IsFitEvent plan event → GivesOnly (ComesFairly units) IsBroughtFairly event
 event_gives plan units (Send system from to body ask) is = ((is.formed, is.fair), tt, tt)
 event_gives plan units (Echo system from to body) is = ((is.formed.0, is.formed.1), tt, tt)
 event_gives plan units (Inject subnet from to octets) is = (is.injected.sender, is.injected.bytes)
@@ -135,37 +134,37 @@ event_gives plan units (Unroute system prefix) is = (tt, tt, tt)
 event_gives plan units (Port system number subnet snpa) is = λ port mtu. (tt, tt, is.changes.address)
 event_gives plan units _ is = tt
 
-events_give : (plan : Plan) → IsFit plan → (units : List unit.Unit) → AllByRecursion (GivesOnly (ComesFairly units) IsBroughtFairly) plan.events
+events_give : (plan : Plan) → IsFit plan → (units : List DataUnit) → AllByRecursion (GivesOnly (ComesFairly units) IsBroughtFairly) plan.events
 events_give plan fit units =
     AllByRecursion-implies (IsFitEvent plan) (GivesOnly (ComesFairly units) IsBroughtFairly) (event_gives plan units) plan.events (fit_events plan fit)
 
 -- What a step sends.
 
 -- what is sent is what a frame may carry, in form
-abbrev SendsInForm : List unit.Unit → Output → Type 0
+abbrev SendsInForm : List DataUnit → Output → Type 0
 SendsInForm units (Transmits port target packet) = IsCarriable packet × HaveOneForm packet.options packet.unit.options × IsOutsideOrOf units packet
 SendsInForm units (SendsEsis port target value) = IsPdu value
 SendsInForm units (Notes note) = Unit {0}
 
 -- what a frame carries that a system sends
-record IsSent (units : List unit.Unit) (maker : Maker) (birth : ℕ) (content : Content) : Type 0 where
+record IsSent (units : List DataUnit) (maker : Maker) (birth : ℕ) (content : Content) : Type 0 where
   carried : IsCarried content
   form : IsInForm content
   made_by : IsMadeBy maker content
   origin : (maker ≡ Outside) ⊎ RangeIn units birth content
 
-copy_in_form : (units : List unit.Unit) (found : Option PortConfig) (target : Target) (maker : Maker) (birth : ℕ) (content : Content)
+copy_in_form : (units : List DataUnit) (found : Option PortConfig) (target : Target) (maker : Maker) (birth : ℕ) (content : Content)
     → ((port : PortConfig) → found ≡ Some port → IsAddress port.snpa) → IsSent units maker birth content
     → AllByRecursion (IsCarriedInForm units) (copy_from found target maker birth content)
 copy_in_form units None target maker birth content addressed sent = tt
 copy_in_form units (Some port) target maker birth content addressed sent =
     (record { sender = addressed port refl; carried = sent.carried; form = sent.form; made_by = sent.made_by; origin = sent.origin }, tt)
 
-module _ (plan : Plan) (units : List unit.Unit) where
-  abbrev Beside : World → Type 0
+module _ (plan : Plan) (units : List DataUnit) where
+  abbrev Beside : LabelledNetwork → Type 0
   Beside = AllIsCarriedBeside plan units
 
-  frame_is_carried : (system : SystemState) → PortsAreAddressed system → (v : World) (port : ℕ) (target : Target) (maker : Maker) (birth : ℕ) (content : Content)
+  frame_is_carried : (system : SystemState) → PortsAreAddressed system → (v : LabelledNetwork) (port : ℕ) (target : Target) (maker : Maker) (birth : ℕ) (content : Content)
       → IsSent units maker birth content → Beside v → Keeps Beside AnyLine (sends_frame system v port target maker birth content)
   frame_is_carried system addressed v port target maker birth content sent k = record {
     world = record {
@@ -182,7 +181,7 @@ module _ (plan : Plan) (units : List unit.Unit) where
   packet_is_sent : (packet : Packet) → IsOutsideOrOf units packet → (packet.unit.maker ≡ Outside) ⊎ RangeIn units packet.unit.made (Labelled packet [])
   packet_is_sent packet origin = elim origin [ inl outside ↦ inl outside | inr range ↦ inr (range, refl, refl) ]
 
-  output_is_carried : (system : SystemState) → PortsAreAddressed system → (output : Output) → SendsInForm units output → (v : World) → Beside v
+  output_is_carried : (system : SystemState) → PortsAreAddressed system → (output : Output) → SendsInForm units output → (v : LabelledNetwork) → Beside v
       → Keeps Beside AnyLine (put_out system v output)
   output_is_carried system addressed (Notes note) sends v k = record { world = k; lines = (tt, tt) }
   output_is_carried system addressed (Transmits port target packet) sends v k =
@@ -192,24 +191,24 @@ module _ (plan : Plan) (units : List unit.Unit) where
       frame_is_carried system addressed v port target (DeclaredAt system.place) system.moment (Esis value [])
       (record { carried = sends; form = tt; made_by = tt; origin = inr (sends, refl) }) k
 
-module _ (laws : StepLaws) (s : SystemState) (units : List unit.Unit) where
+module _ (laws : StepLaws) (s : SystemState) (units : List DataUnit) where
   -- a packet that goes on has options of its unit's form, as that which came has
   on_in_form : (port : ℕ) (input : Input) (p : Packet) → ComesFairly units input → GoesOnOf s port input p → HaveOneForm p.options p.unit.options
   on_in_form port (FrameComes at sender to_group (Labelled came following)) p comes on =
       laws.headers.chained p.options came.options p.unit.options (on.options comes.0.1)
-      (subst (λ (u : unit.Unit). HaveOneForm came.options u.options) (sym on.unit) comes.1.0)
+      (subst (λ (u : DataUnit). HaveOneForm came.options u.options) (sym on.unit) comes.1.0)
   on_in_form port _ p comes on = absurd on
 
   -- and it is from outside, or a range of a unit, as that is
   on_is_known : (port : ℕ) (input : Input) (p : Packet) → ComesFairly units input → GoesOnOf s port input p → IsOutsideOrOf units p
   on_is_known port (FrameComes at sender to_group (Labelled came following)) p comes on =
       elim comes.1.1 [
-        | inl outside ↦ inl (ap (λ (u : unit.Unit). u.maker) on.unit ∙ outside)
+        | inl outside ↦ inl (ap (λ (u : DataUnit). u.maker) on.unit ∙ outside)
         | inr range ↦ inr (packet_goes_on laws units s port came p on range comes.0.1)
       ]
   on_is_known port _ p comes on = absurd on
 
-  sends_in_form : (input : Input) → ComesFairly units input → (made : List unit.Unit) (output : Output) → SendsRangesOrGoesOn s input made output
+  sends_in_form : (input : Input) → ComesFairly units input → (made : List DataUnit) (output : Output) → SendsRangesOrGoesOn s input made output
       → SendsCarriable output × SendsEsisPdus output → SendsInForm (units ++ made) output
   sends_in_form input comes made (Notes note) ranges sends = tt
   sends_in_form input comes made (Transmits port target packet) ranges sends = (
@@ -223,7 +222,7 @@ module _ (laws : StepLaws) (s : SystemState) (units : List unit.Unit) where
   sends_in_form input comes made (SendsEsis port target value) ranges sends = sends.1
 
 module _ (laws : StepLaws) (plan : Plan) (fit : IsFit plan) where
-  pub step_is_carried : (w : World) (place : ℕ) (s : SystemState) (input : Input) → slice_get w.systems place ≡ Some s → ComesFairly w.units input → IsOfNow w s input
+  pub step_is_carried : (w : LabelledNetwork) (place : ℕ) (s : SystemState) (input : Input) → slice_get w.systems place ≡ Some s → ComesFairly w.units input → IsOfNow w s input
       → AllIsCarried plan w → Keeps (AllIsCarried plan) AnyLine (takes_effect w place (step s input))
   step_is_carried w place s input there comes at k =
       let effect : Effect = step s input in
@@ -231,16 +230,16 @@ module _ (laws : StepLaws) (plan : Plan) (fit : IsFit plan) where
       let is = configured plan fit place s.configuration it.declared in
       let same = (laws.steps.itself s input).configuration in
       let attached = laws.steps.soundly s input (is_fair_change w s k.mtus.each it.ports.attached input comes.2 at) it.ports.attached in
-      let units : List unit.Unit = w.units ++ effect.units in
+      let units : List DataUnit = w.units ++ effect.units in
       let sends = AllByRecursion-both (SendsRangesOrGoesOn s input effect.units) (λ output. SendsCarriable output × SendsEsisPdus output) (SendsInForm units)
       (sends_in_form laws s w.units input comes effect.units) effect.outputs (laws.steps.ranges s input)
       (AllByRecursion-both SendsCarriable SendsEsisPdus (λ output. SendsCarriable output × SendsEsisPdus output) (λ output a b. (a, b)) effect.outputs
       (laws.steps.carriable s input is.0 it.ports.attached.ports comes.0 is.1.own it.kept)
       (laws.steps.esis_pdus s input is.0 is.1.own it.ports.attached.next comes.0 it.known)) in
-      let beside : World → Type 0 = AllIsCarriedBeside plan units in
+      let beside : LabelledNetwork → Type 0 = AllIsCarriedBeside plan units in
       keeps-map beside (AllIsCarried plan) AnyLine (takes_effect w place effect) (all_beside plan units)
       (keeps-put_all_out beside AnyLine effect.after effect.outputs
-      (AllByRecursion-implies (SendsInForm units) (λ output. (v : World) → beside v → Keeps beside AnyLine (put_out effect.after v output))
+      (AllByRecursion-implies (SendsInForm units) (λ output. (v : LabelledNetwork) → beside v → Keeps beside AnyLine (put_out effect.after v output))
       (output_is_carried plan units effect.after attached.addressed) effect.outputs sends)
       (with_effect w place effect)
       (record {
@@ -259,8 +258,8 @@ module _ (laws : StepLaws) (plan : Plan) (fit : IsFit plan) where
         mtus = k.mtus;
       }))
 
-  pub frame_comes_fairly : (w : World) (at : ℕ) (copy : Copy) → slice_get w.copies at ≡ Some copy → AllIsCarried plan w
-      → (v : World) → Follows w v → (s : SystemState) → ComesFairly v.units (frame_to s copy)
+  pub frame_comes_fairly : (w : LabelledNetwork) (at : ℕ) (copy : Copy) → slice_get w.copies at ≡ Some copy → AllIsCarried plan w
+      → (v : LabelledNetwork) → Follows w v → (s : SystemState) → ComesFairly v.units (frame_to s copy)
   frame_comes_fairly w at copy there k v follows s =
       let it = AllByRecursion-slice_get (IsCarriedInForm w.units) w.copies at copy there k.copies in
       let known = packet_is_known w.units copy.maker copy.birth copy.content it.made_by it.origin in (
@@ -277,7 +276,7 @@ module _ (laws : StepLaws) (plan : Plan) (fit : IsFit plan) where
   outside_in_form number moment octets false true = tt
   outside_in_form number moment octets false false = tt
 
-  outside_is_carried : (w : World) (subnet : ℕ) (sender : List ℕ) (target : Target) (octets : List ℕ) → IsBroughtFairly sender octets → AllIsCarried plan w
+  outside_is_carried : (w : LabelledNetwork) (subnet : ℕ) (sender : List ℕ) (target : Target) (octets : List ℕ) → IsBroughtFairly sender octets → AllIsCarried plan w
       → AllIsCarried plan (with_outside w subnet sender target octets)
   outside_is_carried w subnet sender target octets brought k = record {
     made = refl;
@@ -295,7 +294,7 @@ module _ (laws : StepLaws) (plan : Plan) (fit : IsFit plan) where
     mtus = k.mtus;
   }
 
-  pub sizes_are_carried : (w : World) (subnet mtu : ℕ) → ((number : ℕ) → ComesFairly w.units (IsChanged (PortTakes number mtu))) → AllIsCarried plan w
+  pub sizes_are_carried : (w : LabelledNetwork) (subnet mtu : ℕ) → ((number : ℕ) → ComesFairly w.units (IsChanged (PortTakes number mtu))) → AllIsCarried plan w
       → AllIsCarried plan (record w { mtus = slice_set w.mtus subnet mtu })
   sizes_are_carried w subnet mtu takes k = record {
     made = refl;

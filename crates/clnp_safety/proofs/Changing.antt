@@ -11,11 +11,11 @@ use Rattle.clnp_machine.specs.Forwarding.declared.route.Route.{Route}
 use Rattle.clnp_network.specs.Scenario.Scenario.{IsFit, Plan}
 use Rattle.clnp_network.specs.Scenario.declared.event.Move.{Move}
 use Rattle.clnp_machine.specs.Change.{Change, PortIsAt, PortTakes, RouteIsGone, RouteIsSet}
-use Rattle.clnp_machine.specs.Unit as unit
+use Rattle.clnp_machine.specs.Unit.{DataUnit}
 use Rattle.clnp_machine.specs.System.{SystemState, IsChanged}
 use Rattle.clnp_machine.specs.Step.{as_changed, step}
-use Rattle.clnp_machine.specs.Steps.{IsFairChange}
-use Rattle.clnp_network.specs.World.{World, comes, moved, moves_port, removes_route, resizes, sets_route}
+use Rattle.clnp_machine.specs.EveryStep.{IsFairChange}
+use Rattle.clnp_network.specs.LabelledNetwork.{LabelledNetwork, comes, moved, moves_port, removes_route, resizes, sets_route}
 use Rattle.clnp_network.specs.Run.{Entry}
 use Rattle.clnp_safety.specs.Invariant.{EachRests, SystemIsSound, WorldIsSound}
 use Rattle.clnp_safety.specs.StepLaws.{StepLaws}
@@ -29,7 +29,7 @@ use Rattle.clnp_safety.proofs.Lines.{LineIs}
 use Rattle.clnp_safety.proofs.Moves.{IsSoundSince, MoveIsSound, kept_is_sound, sound_since_itself}
 use Rattle.clnp_safety.proofs.Steps.{ChangingIsFine, Keeps, keeps-comes_to, keeps-moves_port, keeps-removes_route, keeps-resizes, keeps-sets_route}
 
-changed_is_sound : StepLaws → (plan : Plan) (units : List unit.Unit) (place : ℕ) (s : SystemState) (change : Change) → IsFairChange s (IsChanged change)
+changed_is_sound : StepLaws → (plan : Plan) (units : List DataUnit) (place : ℕ) (s : SystemState) (change : Change) → IsFairChange s (IsChanged change)
     → SystemIsSound plan units place s → SystemIsSound plan units place (as_changed change s)
 changed_is_sound laws plan units place s change fair sound = record {
   stands_at = sound.stands_at;
@@ -47,9 +47,9 @@ changed_is_sound laws plan units place s change fair sound = record {
   ports = laws.steps.ports s (IsChanged change) ∙ sound.ports;
 }
 
-module _ (laws : StepLaws) (plan : Plan) (fit : IsFit plan) (past : List Entry) (move : Move) (w : World) (h : WorldIsSound plan past w) where
+module _ (laws : StepLaws) (plan : Plan) (fit : IsFit plan) (past : List Entry) (move : Move) (w : LabelledNetwork) (h : WorldIsSound plan past w) where
   -- what the worlds of a change keep
-  abbrev Sound : World → Type 0
+  abbrev Sound : LabelledNetwork → Type 0
   Sound = IsSoundSince plan past w
 
   -- what its lines are
@@ -68,7 +68,7 @@ module _ (laws : StepLaws) (plan : Plan) (fit : IsFit plan) (past : List Entry) 
   here = sound_since_itself plan past w h
 
   -- a change comes to the system at a place of a world in between
-  module _ (v : World) (place : ℕ) (change : Change) (formed : ChangesFormed (IsChanged change)) (k : Sound v) where
+  module _ (v : LabelledNetwork) (place : ℕ) (change : Change) (formed : ChangesFormed (IsChanged change)) (k : Sound v) where
     module _ (s : SystemState) (there : slice_get v.systems place ≡ Some s) (now : IsOfNow v s (IsChanged change)) where
       done : EffectIsSound plan past w s.configuration.name v.units place (step s (IsChanged change))
       done =

@@ -18,8 +18,8 @@ use Rattle.clnp_machine.specs.ClnpPlan.declared.config.Limits.{Limits}
 use Rattle.clnp_machine.specs.Change.{PortIsAt, PortTakes, RouteIsGone, RouteIsSet}
 use Rattle.clnp_machine.specs.System.{SystemState, Input, AsksToSend, AsksForEcho, MomentComes, IsRestarted, IsCongested, IsChanged, Output, Transmits, SendsEsis, Notes, Effect}
 use Rattle.clnp_machine.specs.Step.{step}
-use Rattle.clnp_machine.specs.Steps.{moment_after}
-use Rattle.clnp_network.specs.World.{World, Copy, Numbered, addressees_from, after, comes, comes_to, event_happens, first_world, frame_to, goes_on, lose_copy, moved, put_out, settle_copy, states_from, takes_effect, tick_alone, tick_each, with_effect}
+use Rattle.clnp_machine.specs.EveryStep.{moment_after}
+use Rattle.clnp_network.specs.LabelledNetwork.{LabelledNetwork, Copy, Numbered, addressees_from, after, comes, comes_to, event_happens, first_world, frame_to, goes_on, lose_copy, moved, put_out, settle_copy, states_from, takes_effect, tick_alone, tick_each, with_effect}
 use Rattle.clnp_network.specs.Clocks.{AreCurrent, NoneIsAhead, StayTogether, StaysTogether, TickTogether, TicksForAll, clock_after, clock_with, clocks_after, clocks_of}
 use Rattle.clnp_network.specs.Run.{moves_made, moves_of_plan, world_after}
 use Rattle.clnp_network.proofs.Sweeps.{change_at, sweep, sweep_all}
@@ -39,7 +39,7 @@ map_with f (y ∷ xs) (suc place) x = ap (λ ys. f y ∷ ys) (map_with f xs plac
 -- What moves leave.
 
 -- the clocks and the network's clock are these
-record HasClocks (clocks : List ℕ) (clock : ℕ) (w : World) : Type 0 where
+record HasClocks (clocks : List ℕ) (clock : ℕ) (w : LabelledNetwork) : Type 0 where
   systems : clocks_of w ≡ clocks
   network : w.clock ≡ clock
 
@@ -47,17 +47,17 @@ record HasClocks (clocks : List ℕ) (clock : ℕ) (w : World) : Type 0 where
 abbrev LeavesMoments : Input → Type 0
 LeavesMoments input = (s : SystemState) → moment_after s input ≡ s.moment
 
-put_out_clock : (clock : ℕ) (system : SystemState) (output : Output) (v : World) → v.clock ≡ clock
-    → Keeps (λ (later : World). later.clock ≡ clock) AnyLine (put_out system v output)
+put_out_clock : (clock : ℕ) (system : SystemState) (output : Output) (v : LabelledNetwork) → v.clock ≡ clock
+    → Keeps (λ (later : LabelledNetwork). later.clock ≡ clock) AnyLine (put_out system v output)
 put_out_clock clock system (Notes note) v same = record { world = same; lines = (tt, tt) }
 put_out_clock clock system (Transmits port target packet) v same = record { world = same; lines = (tt, tt) }
 put_out_clock clock system (SendsEsis port target value) v same = record { world = same; lines = (tt, tt) }
 
 -- a system that takes a step leaves the network's clock
-effect_clock : (w : World) (place : ℕ) (effect : Effect) → (takes_effect w place effect).world.clock ≡ w.clock
+effect_clock : (w : LabelledNetwork) (place : ℕ) (effect : Effect) → (takes_effect w place effect).world.clock ≡ w.clock
 effect_clock w place effect =
-    (keeps-put_all_out (λ (v : World). v.clock ≡ w.clock) AnyLine effect.after effect.outputs
-    (AllByRecursion-any (λ output. (v : World) → v.clock ≡ w.clock → Keeps (λ (later : World). later.clock ≡ w.clock) AnyLine (put_out effect.after v output))
+    (keeps-put_all_out (λ (v : LabelledNetwork). v.clock ≡ w.clock) AnyLine effect.after effect.outputs
+    (AllByRecursion-any (λ output. (v : LabelledNetwork) → v.clock ≡ w.clock → Keeps (λ (later : LabelledNetwork). later.clock ≡ w.clock) AnyLine (put_out effect.after v output))
     (put_out_clock w.clock effect.after) effect.outputs)
     (with_effect w place effect) refl).world
 
@@ -66,14 +66,14 @@ abbrev pub OnMoments : Type 0
 OnMoments = (s : SystemState) (input : Input) → (step s input).after.moment ≡ moment_after s input
 
 module _ (law : OnMoments) where
-  effect_clocks : (w : World) (place : ℕ) (s : SystemState) (input : Input)
+  effect_clocks : (w : LabelledNetwork) (place : ℕ) (s : SystemState) (input : Input)
       → clocks_of (takes_effect w place (step s input)).world ≡ slice_set (clocks_of w) place (moment_after s input)
   effect_clocks w place s input =
       ap (map (λ (t : SystemState). t.moment)) (systems_after w place (step s input))
       ∙ map_with (λ (t : SystemState). t.moment) w.systems place (step s input).after
       ∙ ap (slice_set (clocks_of w) place) (law s input)
 
-  step_leaves : (clocks : List ℕ) (clock : ℕ) (w : World) (place : ℕ) (s : SystemState) (input : Input) → slice_get w.systems place ≡ Some s
+  step_leaves : (clocks : List ℕ) (clock : ℕ) (w : LabelledNetwork) (place : ℕ) (s : SystemState) (input : Input) → slice_get w.systems place ≡ Some s
       → LeavesMoments input → HasClocks clocks clock w → Keeps (HasClocks clocks clock) AnyLine (takes_effect w place (step s input))
   step_leaves clocks clock w place s input there leaves k =
       let taken = takes_effect w place (step s input) in
@@ -89,18 +89,18 @@ module _ (law : OnMoments) where
 
   -- Moves but ticks leave all clocks.
   module _ (clocks : List ℕ) (clock : ℕ) where
-    abbrev Has : World → Type 0
+    abbrev Has : LabelledNetwork → Type 0
     Has = HasClocks clocks clock
 
-    comes_leaves : (w : World) (place : ℕ) (input : Input) → LeavesMoments input → Has w → Keeps Has AnyLine (comes w place input)
+    comes_leaves : (w : LabelledNetwork) (place : ℕ) (input : Input) → LeavesMoments input → Has w → Keeps Has AnyLine (comes w place input)
     comes_leaves w place input leaves k =
         keeps-comes_to Has AnyLine w place input (slice_get w.systems place) (λ none. k) (λ s there. step_leaves clocks clock w place s input there leaves k)
 
-    frame_leaves : (copy : Copy) (w : World) (place : ℕ) → Has w → (s : SystemState) → slice_get w.systems place ≡ Some s
+    frame_leaves : (copy : Copy) (w : LabelledNetwork) (place : ℕ) → Has w → (s : SystemState) → slice_get w.systems place ≡ Some s
         → Keeps Has AnyLine (takes_effect w place (step s (frame_to s copy)))
     frame_leaves copy w place k s there = step_leaves clocks clock w place s (frame_to s copy) there (λ t. refl) k
 
-    event_leaves : (subnets : List Subnetwork) (limits : Limits) (w : World) (asked : Option Event) → Has w → Keeps Has AnyLine (event_happens subnets limits w asked)
+    event_leaves : (subnets : List Subnetwork) (limits : Limits) (w : LabelledNetwork) (asked : Option Event) → Has w → Keeps Has AnyLine (event_happens subnets limits w asked)
     event_leaves subnets limits w None k = keeps-nothing Has AnyLine w k
     event_leaves subnets limits w (Some (Settle count)) k = keeps-nothing Has AnyLine w k
     event_leaves subnets limits w (Some (Lose count)) k = keeps-nothing Has AnyLine w k
@@ -130,17 +130,17 @@ module _ (law : OnMoments) where
         keeps-moves_port Has AnyLine any_line_changes w system k number subnet snpa subnets
         (λ s port mtu there has takes. comes_leaves w system (IsChanged (PortIsAt number (moved port subnet mtu snpa))) (λ t. refl) k)
 
-    settle_leaves : (limits : Limits) (w : World) (found : Option Copy) → Has w → Keeps Has AnyLine (settle_copy limits w found)
+    settle_leaves : (limits : Limits) (w : LabelledNetwork) (found : Option Copy) → Has w → Keeps Has AnyLine (settle_copy limits w found)
     settle_leaves limits w None k = keeps-nothing Has AnyLine w k
     settle_leaves limits w (Some copy) k =
         let given : Numbered = record { number = w.cursor + 1; copy = copy } in
         let places = addressees_from 0 copy w.systems in
-        let first : World = record w { cursor = w.cursor + 1 } in
+        let first : LabelledNetwork = record w { cursor = w.cursor + 1 } in
         keeps-settle_for Has AnyLine any_line_is_fine limits given first places
         (keeps-give_each Has AnyLine any_line_is_fine limits given places (λ v place h s there soon. frame_leaves copy v place h s there) first
         (record { systems = k.systems; network = k.network }))
 
-    lose_leaves : (w : World) (found : Option Copy) → Has w → Has (lose_copy w found).world
+    lose_leaves : (w : LabelledNetwork) (found : Option Copy) → Has w → Has (lose_copy w found).world
     lose_leaves w None k = k
     lose_leaves w (Some copy) k = record { systems = k.systems; network = k.network }
 
@@ -150,7 +150,7 @@ module _ (law : OnMoments) where
   abbrev with_next : ℕ → List ℕ → List ℕ
   with_next place clocks = change_at (λ clock. clock + 1) place (slice_get clocks place) clocks
 
-  goes_on_clocks : (w : World) (place : ℕ) (found : Option SystemState) → slice_get w.systems place ≡ found
+  goes_on_clocks : (w : LabelledNetwork) (place : ℕ) (found : Option SystemState) → slice_get w.systems place ≡ found
       → clocks_of (goes_on w place found).world ≡ with_next place (clocks_of w)
   goes_on_clocks w place None e =
       let none : slice_get (clocks_of w) place ≡ None =
@@ -161,29 +161,29 @@ module _ (law : OnMoments) where
       ∙ effect_clocks w place s (MomentComes (s.moment + 1))
       ∙ ap (λ found. change_at (λ clock. clock + 1) place found (clocks_of w)) (sym (slice_get_map (λ (t : SystemState). t.moment) w.systems place s e))
 
-  goes_on_clock : (w : World) (place : ℕ) (found : Option SystemState) → slice_get w.systems place ≡ found → (goes_on w place found).world.clock ≡ w.clock
+  goes_on_clock : (w : LabelledNetwork) (place : ℕ) (found : Option SystemState) → slice_get w.systems place ≡ found → (goes_on w place found).world.clock ≡ w.clock
   goes_on_clock w place None e = refl
   goes_on_clock w place (Some s) e =
       ap (λ (found : Option SystemState). (comes_to w place (MomentComes (s.moment + 1)) found).world.clock) e
       ∙ effect_clock w place (step s (MomentComes (s.moment + 1)))
 
-  tick_each_clocks : (places : List ℕ) (w : World) → clocks_of (tick_each w places).world ≡ sweep (λ clock. clock + 1) places (clocks_of w)
+  tick_each_clocks : (places : List ℕ) (w : LabelledNetwork) → clocks_of (tick_each w places).world ≡ sweep (λ clock. clock + 1) places (clocks_of w)
   tick_each_clocks [] w = refl
   tick_each_clocks (place ∷ places) w =
       tick_each_clocks places (goes_on w place (slice_get w.systems place)).world
       ∙ ap (sweep (λ clock. clock + 1) places) (goes_on_clocks w place (slice_get w.systems place) refl)
 
-  tick_each_clock : (places : List ℕ) (w : World) → (tick_each w places).world.clock ≡ w.clock
+  tick_each_clock : (places : List ℕ) (w : LabelledNetwork) → (tick_each w places).world.clock ≡ w.clock
   tick_each_clock [] w = refl
   tick_each_clock (place ∷ places) w =
       tick_each_clock places (goes_on w place (slice_get w.systems place)).world ∙ goes_on_clock w place (slice_get w.systems place) refl
 
-  alone_clocks : (w : World) (place : ℕ) (found : Option SystemState) → slice_get w.systems place ≡ found
+  alone_clocks : (w : LabelledNetwork) (place : ℕ) (found : Option SystemState) → slice_get w.systems place ≡ found
       → clocks_of (tick_alone w place found).world ≡ with_next place (clocks_of w)
   alone_clocks w place None e = goes_on_clocks w place None e
   alone_clocks w place (Some s) e = goes_on_clocks (record w { clock = max w.clock (s.moment + 1) }) place (Some s) e
 
-  alone_clock : (w : World) (place : ℕ) (found : Option SystemState) → slice_get w.systems place ≡ found
+  alone_clock : (w : LabelledNetwork) (place : ℕ) (found : Option SystemState) → slice_get w.systems place ≡ found
       → (tick_alone w place found).world.clock ≡ clock_with w.clock (slice_get (clocks_of w) place)
   alone_clock w place None e =
       ap (clock_with w.clock) (sym (slice_get-map (λ (t : SystemState). t.moment) w.systems place ∙ ap (option_map (λ (t : SystemState). t.moment)) e))
@@ -203,11 +203,11 @@ module _ (law : OnMoments) where
 
   -- What each move leaves.
 
-  quiet : (w : World) → HasClocks (clocks_of w) w.clock w
+  quiet : (w : LabelledNetwork) → HasClocks (clocks_of w) w.clock w
   quiet w = record { systems = refl; network = refl }
 
   -- each move takes the clocks of systems on as it should
-  pub clocks_by : (plan : Plan) (w : World) (move : Move) → clocks_of (after plan w move).world ≡ clocks_after (clocks_of w) move
+  pub clocks_by : (plan : Plan) (w : LabelledNetwork) (move : Move) → clocks_of (after plan w move).world ≡ clocks_after (clocks_of w) move
   clocks_by plan w (One place) =
       (event_leaves (clocks_of w) w.clock plan.subnets plan.limits w (slice_get plan.events place) (quiet w)).world.systems
   clocks_by plan w SettleOne = (settle_leaves (clocks_of w) w.clock plan.limits w (slice_get w.copies w.cursor) (quiet w)).world.systems
@@ -219,7 +219,7 @@ module _ (law : OnMoments) where
   clocks_by plan w (TickSystem place) = alone_clocks w place (slice_get w.systems place) refl ∙ changed_is place (clocks_of w)
 
   -- and so it does the network's clock
-  pub clock_by : (plan : Plan) (w : World) (move : Move) → (after plan w move).world.clock ≡ clock_after w.clock (clocks_of w) move
+  pub clock_by : (plan : Plan) (w : LabelledNetwork) (move : Move) → (after plan w move).world.clock ≡ clock_after w.clock (clocks_of w) move
   clock_by plan w (One place) =
       (event_leaves (clocks_of w) w.clock plan.subnets plan.limits w (slice_get plan.events place) (quiet w)).world.network
   clock_by plan w SettleOne = (settle_leaves (clocks_of w) w.clock plan.limits w (slice_get w.copies w.cursor) (quiet w)).world.network
@@ -227,7 +227,7 @@ module _ (law : OnMoments) where
   clock_by plan w TickOne = tick_each_clock (range_with_len 0 (length w.systems)) (record w { clock = w.clock + 1 })
   clock_by plan w (TickSystem place) = alone_clock w place (slice_get w.systems place) refl
 
-pub clocks_then : StepLaws → (plan : Plan) (w : World) (move : Move) → clocks_of (after plan w move).world ≡ clocks_after (clocks_of w) move
+pub clocks_then : StepLaws → (plan : Plan) (w : LabelledNetwork) (move : Move) → clocks_of (after plan w move).world ≡ clocks_after (clocks_of w) move
 clocks_then laws = clocks_by laws.steps.moment
 
 -- Clocks at the beginning.
@@ -314,7 +314,7 @@ all_after clock clocks TickOne all are = λ place later there.
     omega arith
 all_after clock clocks (TickSystem place) all are = absurd all
 
-all_then : OnMoments → (plan : Plan) (moves : List Move) (w : World) → TickTogether moves → AreAll w.clock (clocks_of w)
+all_then : OnMoments → (plan : Plan) (moves : List Move) (w : LabelledNetwork) → TickTogether moves → AreAll w.clock (clocks_of w)
     → AreAll (world_after plan w moves).clock (clocks_of (world_after plan w moves))
 all_then law plan [] w all are = are
 all_then law plan (move ∷ moves) w all are =
@@ -369,26 +369,26 @@ behind_after clock clocks (TickSystem alone) are = λ place later there.
     ]
 
 -- so it is of the clocks of a network
-pub behind_of : (w : World) → NoneIsAhead w → AreBehind w.clock (clocks_of w)
+pub behind_of : (w : LabelledNetwork) → NoneIsAhead w → AreBehind w.clock (clocks_of w)
 behind_of w none place clock there =
     let it = mapped_from (λ (s : SystemState). s.moment) w.systems place clock there in
     let before = AllByRecursion-slice_get (λ (s : SystemState). s.moment ≤ w.clock) w.systems place it.0 it.1 none in
     let same : it.0.moment ≡ clock = it.2 in
     omega arith
 
-none_of : (w : World) → AreBehind w.clock (clocks_of w) → NoneIsAhead w
+none_of : (w : LabelledNetwork) → AreBehind w.clock (clocks_of w) → NoneIsAhead w
 none_of w are =
     AllByRecursion-from_places (λ (s : SystemState). s.moment ≤ w.clock) w.systems
     (λ place s there. are place s.moment (slice_get_map (λ (t : SystemState). t.moment) w.systems place s there))
 
-pub stays_behind : OnMoments → (plan : Plan) (w : World) (move : Move) → NoneIsAhead w → NoneIsAhead (after plan w move).world
+pub stays_behind : OnMoments → (plan : Plan) (w : LabelledNetwork) (move : Move) → NoneIsAhead w → NoneIsAhead (after plan w move).world
 stays_behind law plan w move none =
     none_of (after plan w move).world
     (subst (λ clock. AreBehind clock (clocks_of (after plan w move).world)) (sym (clock_by law plan w move))
     (subst (AreBehind (clock_after w.clock (clocks_of w) move)) (sym (clocks_by law plan w move))
     (behind_after w.clock (clocks_of w) move (behind_of w none))))
 
-pub behind_then : OnMoments → (plan : Plan) (moves : List Move) (w : World) → NoneIsAhead w → NoneIsAhead (world_after plan w moves)
+pub behind_then : OnMoments → (plan : Plan) (moves : List Move) (w : LabelledNetwork) → NoneIsAhead w → NoneIsAhead (world_after plan w moves)
 behind_then law plan [] w none = none
 behind_then law plan (move ∷ moves) w none = behind_then law plan moves (after plan w move).world (stays_behind law plan w move none)
 

@@ -6,7 +6,7 @@ use Rattle.clnp_network.specs.Scenario.Scenario.{IsFit, Plan}
 use Rattle.clnp_network.specs.Scenario.declared.event.Move.{Move}
 use Rattle.clnp_machine.specs.System.{SystemState, Input, IsCongested}
 use Rattle.clnp_machine.specs.Step.{congest, step}
-use Rattle.clnp_network.specs.World.{World, comes, comes_to, takes_effect}
+use Rattle.clnp_network.specs.LabelledNetwork.{LabelledNetwork, comes, comes_to, takes_effect}
 use Rattle.clnp_network.specs.Run.{Entry}
 use Rattle.clnp_safety.specs.Invariant.{SystemStands, WorldIsSound}
 use Rattle.clnp_safety.specs.StepLaws.{StepLaws}
@@ -18,7 +18,7 @@ use Rattle.clnp_safety.proofs.Moves.{IsSoundSince, MoveIsSound, kept_is_sound, n
 use Rattle.clnp_safety.proofs.Steps.{Keeps}
 use Rattle.clnp_safety.proofs.Honest.{NoteIsSteady}
 
-module _ (laws : StepLaws) (plan : Plan) (fit : IsFit plan) (past : List Entry) (move : Move) (w : World) (h : WorldIsSound plan past w) (place : ℕ) (on : Bool) where
+module _ (laws : StepLaws) (plan : Plan) (fit : IsFit plan) (past : List Entry) (move : Move) (w : LabelledNetwork) (h : WorldIsSound plan past w) (place : ℕ) (on : Bool) where
   -- what comes
   abbrev input : Input
   input = IsCongested on

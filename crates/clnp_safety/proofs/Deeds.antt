@@ -18,14 +18,13 @@ use Rattle.clnp_machine.specs.Reassembly.Buffer.{Buffer, held, is_whole}
 use Rattle.clnp_network.specs.Scenario.Scenario.{Plan}
 use Rattle.clnp_machine.specs.Attachment.{Attachment, IsAttached}
 use Rattle.clnp_machine.specs.Identifiers.{Identifiers}
-use Rattle.clnp_machine.specs.Unit as unit
-use Rattle.clnp_machine.specs.Unit.{Packet}
+use Rattle.clnp_machine.specs.Unit.{DataUnit, Packet}
 use Rattle.clnp_machine.specs.Content.{Content, frame_of}
 use Rattle.clnp_machine.specs.System.{SystemState}
 use Rattle.clnp_machine.specs.Local.{Action, Sends, Tells, Deed, and_then, discard, made_in, make, makes, refusal, reports_from, tells, unit_of, unless_refused}
-use Rattle.clnp_machine.specs.Steps.{KnowsAddresses, LeavesTheRest}
+use Rattle.clnp_machine.specs.EveryStep.{KnowsAddresses, LeavesTheRest}
 use Rattle.clnp_machine.specs.Told.{IsRefusal, NoteIsQuiet, TellsOnly}
-use Rattle.clnp_network.specs.World.{World}
+use Rattle.clnp_network.specs.LabelledNetwork.{LabelledNetwork}
 use Rattle.clnp_network.specs.Run.{Entry}
 use Rattle.clnp_safety.specs.Invariant.{AreUsesUntil, BufferIsSound, EachRests, IsAccounted, SystemIsSound}
 use Rattle.clnp_safety.specs.StepLaws.{StepLaws}
@@ -59,7 +58,7 @@ like_rest s t rest known = record {
   known = known;
 }
 
-pub like_is_sound : (plan : Plan) (units : List unit.Unit) (place : ℕ) (s t : SystemState) → IsLike s t → SystemIsSound plan units place s
+pub like_is_sound : (plan : Plan) (units : List DataUnit) (place : ℕ) (s t : SystemState) → IsLike s t → SystemIsSound plan units place s
     → SystemIsSound plan units place t
 like_is_sound plan units place s t like sound = record {
   stands_at = like.place ∙ sound.stands_at;
@@ -84,7 +83,7 @@ like_is_sound plan units place s t like sound = record {
 }
 
 -- with other buffers that are as they should be a system is as sound, however many units it counts
-pub with_buffers : (plan : Plan) (units : List unit.Unit) (place : ℕ) (s : SystemState) (buffers : List (Buffer Packet)) (count : ℕ)
+pub with_buffers : (plan : Plan) (units : List DataUnit) (place : ℕ) (s : SystemState) (buffers : List (Buffer Packet)) (count : ℕ)
     → SystemIsSound plan units place s → AllByRecursion (BufferIsSound plan units) buffers
     → AllByRecursion (λ (b : Buffer Packet). s.moment < b.deadline) buffers → AllByRecursion (λ (b : Buffer Packet). is_whole b ≡ false) buffers
     → held buffers ≤ s.configuration.settings.budget → SystemIsSound plan units place (record s { buffers = buffers; count = count })
@@ -106,22 +105,22 @@ with_buffers plan units place s buffers count sound each not_due not_whole withi
 
 -- Reports are whole units that are made at a moment, and no replies.
 
-pub record IsReport (now : ℕ) (u : unit.Unit) : Type 0 where
+pub record IsReport (now : ℕ) (u : DataUnit) : Type 0 where
   pub kind : u.kind ≡ Er
   pub whole : u.identifier ≡ None
   pub made : u.made ≡ now
 
 -- the data of an echo reply are octets
-abbrev pub RepliesInOctets : unit.Unit → Type 0
+abbrev pub RepliesInOctets : DataUnit → Type 0
 RepliesInOctets u = u.kind ≡ Erp → IsBytes u.octets
 
-no_reply : (now : ℕ) (u : unit.Unit) → IsReport now u → RepliesInOctets u
+no_reply : (now : ℕ) (u : DataUnit) → IsReport now u → RepliesInOctets u
 no_reply now u is erp = let same : Er ≡ Erp = sym is.kind ∙ erp in absurd (cc)
 
-pub reports_reply_nothing : (now : ℕ) (made : List unit.Unit) → AllByRecursion (IsReport now) made → AllByRecursion RepliesInOctets made
+pub reports_reply_nothing : (now : ℕ) (made : List DataUnit) → AllByRecursion (IsReport now) made → AllByRecursion RepliesInOctets made
 reports_reply_nothing now made are = AllByRecursion-implies (IsReport now) RepliesInOctets (no_reply now) made are
 
-pub reports_are_sound : (plan : Plan) (units made : List unit.Unit) (now place : ℕ) (s : SystemState) → s.moment ≡ now → AllByRecursion (IsReport now) made
+pub reports_are_sound : (plan : Plan) (units made : List DataUnit) (now place : ℕ) (s : SystemState) → s.moment ≡ now → AllByRecursion (IsReport now) made
     → SystemIsSound plan units place s → SystemIsSound plan (units ++ made) place s
 reports_are_sound plan units made now place s at are h = record {
   stands_at = h.stands_at;
@@ -145,10 +144,10 @@ reports_are_sound plan units made now place s at are h = record {
   ports = h.ports;
 }
 
-pub all_whole : (now : ℕ) (made : List unit.Unit) → AllByRecursion (IsReport now) made → AllByRecursion IsWhole made
+pub all_whole : (now : ℕ) (made : List DataUnit) → AllByRecursion (IsReport now) made → AllByRecursion IsWhole made
 all_whole now made are = AllByRecursion-implies (IsReport now) IsWhole (λ u is. is.whole) made are
 
-pub reports_rest : (reuse now : ℕ) (units made : List unit.Unit) → AllByRecursion (IsReport now) made → EachRests reuse units → EachRests reuse (units ++ made)
+pub reports_rest : (reuse now : ℕ) (units made : List DataUnit) → AllByRecursion (IsReport now) made → EachRests reuse units → EachRests reuse (units ++ made)
 reports_rest reuse now units made are rest = whole_rest reuse units made (all_whole now made are) rest
 
 -- what the report of a discard leaves, and makes
@@ -185,11 +184,11 @@ pub discard_reports : (s : SystemState) (frame : Content) (reason place : ℕ) �
 discard_reports s frame reason place = (reports_quietly s (frame_of frame) reason place (slice_get s.configuration.addresses 0)).made
 
 -- a system before a deed, and the units
-pub record MayDo (plan : Plan) (units : List unit.Unit) (place : ℕ) (s : SystemState) : Type 0 where
+pub record MayDo (plan : Plan) (units : List DataUnit) (place : ℕ) (s : SystemState) : Type 0 where
   pub sound : SystemIsSound plan units place s
   pub rest : EachRests plan.limits.reuse units
 
-module _ (plan : Plan) (past : List Entry) (w : World) (name : List ℕ) where
+module _ (plan : Plan) (past : List Entry) (w : LabelledNetwork) (name : List ℕ) where
   -- what a system of this name tells is honest
   abbrev pub IsHonest : Note → Type 0
   IsHonest = NoteIsHonest plan past w name
@@ -202,7 +201,7 @@ module _ (plan : Plan) (past : List Entry) (w : World) (name : List ℕ) where
   refusal_is_honest (Refused why value) h = tt
   refusal_is_honest _ h = absurd h
 
-  module _ (units : List unit.Unit) (place : ℕ) where
+  module _ (units : List DataUnit) (place : ℕ) where
     -- what a deed leaves is sound beside the units that are made in it, and what it tells is honest
     pub record DeedIsSound (deed : Deed) : Type 0 where
       pub after : SystemIsSound plan (units ++ made_in deed.actions) place deed.after
@@ -240,7 +239,7 @@ module _ (plan : Plan) (past : List Entry) (w : World) (name : List ℕ) where
           );
         }
 
-    pub makes_soundly : (s : SystemState) (u : unit.Unit) → MayDo plan units place s → IsNew place s u → RepliesInOctets u → DeedIsSound (makes s u)
+    pub makes_soundly : (s : SystemState) (u : DataUnit) → MayDo plan units place s → IsNew place s u → RepliesInOctets u → DeedIsSound (makes s u)
     makes_soundly s u may new in_octets = record {
       after = maker_after plan units place s u new may.sound;
       rest = new_rests plan units place s u new may.sound may.rest;

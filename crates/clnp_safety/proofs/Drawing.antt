@@ -11,21 +11,20 @@ use Rattle.clnp_machine.specs.PduHeader.declared.kind.Kind.{Kind}
 use Rattle.clnp_machine.specs.PduHeader.declared.kind.Kind.TheVariants.{Dt, Er, Erq, Erp}
 use Rattle.clnp_machine.specs.PduHeader.Rules.{octet, refusal as rule_broken}
 use Rattle.clnp_machine.specs.EsisPdus.Rules.{why_refused}
-use Rattle.clnp_machine.specs.EsisTables.declared.fact.Place.{Place}
+use Rattle.clnp_machine.specs.EsisTables.declared.fact.Neighbour.{Neighbour}
 use Rattle.clnp_machine.specs.Reassembly.Arrival.{Arrival}
 use Rattle.clnp_machine.specs.Reassembly.Buffer as buffer
 use Rattle.clnp_machine.specs.Reassembly.Buffer.{Answer, Buffer}
 use Rattle.clnp_machine.specs.ClnpPlan.declared.ask.Ask.{Ask}
 use Rattle.clnp_machine.specs.ClnpPlan.declared.note.Note.{Note}
 use Rattle.clnp_machine.specs.Identifiers.{Identifiers}
-use Rattle.clnp_machine.specs.Unit as unit
-use Rattle.clnp_machine.specs.Unit.{Packet, value_of}
+use Rattle.clnp_machine.specs.Unit.{DataUnit, Packet, value_of}
 use Rattle.clnp_machine.specs.Content.{Content, Labelled, Esis, Unlabelled}
 use Rattle.clnp_machine.specs.System.{SystemState, Input, AsksToSend, AsksForEcho, FrameComes, MomentComes, IsRestarted, IsCongested, IsChanged, Effect, table_limits, then_does}
 use Rattle.clnp_machine.specs.Local.{Deed, at_moment, discard, echo_ask, expire, give_up_due, gives_up, hand_up, is_all, is_answer, made_in, make, offer, offered, receive, refusal, takes_in, takes_reply, tells, tick, unit_of, unless_refused}
 use Rattle.clnp_machine.specs.Esis.{esis_comes, forgets, says_hello}
 use Rattle.clnp_machine.specs.Step.{content_comes, discard_refused, moment_comes, octets_come, packet_comes, responds, step, unheard_note}
-use Rattle.clnp_machine.specs.Steps.{OnlyHellos, RestartsNothing, moment_after}
+use Rattle.clnp_machine.specs.EveryStep.{OnlyHellos, RestartsNothing, moment_after}
 use Rattle.clnp_machine.proofs.Passing.{packet_does}
 use Rattle.clnp_safety.specs.StepLaws.{StepLaws}
 use Rattle.clnp_safety.proofs.Deeds.{all_whole, discard_is_like, discard_reports}
@@ -39,7 +38,7 @@ draws_nothing : (now : ℕ) (ids : Identifiers) → Draws now ids ids []
 draws_nothing now ids = inl (record { identifiers = refl; whole = tt })
 
 -- nothing more is drawn, and no more units are made
-draws_no_more : (now : ℕ) (before middle after : Identifiers) (units more : List unit.Unit) → after ≡ middle → more ≡ []
+draws_no_more : (now : ℕ) (before middle after : Identifiers) (units more : List DataUnit) → after ≡ middle → more ≡ []
     → Draws now before middle units → Draws now before after (units ++ more)
 draws_no_more now before middle after units more same none h =
     subst (λ ids. Draws now before ids (units ++ more)) (sym same)
@@ -61,7 +60,7 @@ module _ (laws : StepLaws) where
 
   module _ (s : SystemState) (kind : Kind) (from to octets : List ℕ) (ask : Ask) where
     -- the unit that is asked for
-    abbrev asked : unit.Unit
+    abbrev asked : DataUnit
     asked = unit_of s kind from to octets ask
 
     unless_draws : (refused : Option Note) → refusal s asked ≡ refused → DeedDraws s (unless_refused refused s asked)
@@ -80,7 +79,7 @@ module _ (laws : StepLaws) where
 
   -- Packets for the system's own addresses.
 
-  reply_draws : (s : SystemState) (source destination octets : List ℕ) (found : Option unit.Unit) → DeedDraws s (takes_reply s source destination octets found)
+  reply_draws : (s : SystemState) (source destination octets : List ℕ) (found : Option DataUnit) → DeedDraws s (takes_reply s source destination octets found)
   reply_draws s source destination octets None = draws_nothing s.moment s.identifiers
   reply_draws s source destination octets (Some request) = draws_nothing s.moment s.identifiers
 
@@ -114,7 +113,7 @@ module _ (laws : StepLaws) where
 
   -- Frames that come.
 
-  packet_draws : (s : SystemState) (came : Place) (p : Packet) (following : List ℕ) → EffectDraws s (packet_comes s came p following)
+  packet_draws : (s : SystemState) (came : Neighbour) (p : Packet) (following : List ℕ) → EffectDraws s (packet_comes s came p following)
   packet_draws s came p following =
       packet_does (EffectDraws s) s came p following (λ reason of_none. discard_draws s (Labelled p following) reason 0)
       (λ router way port pieces there alive gives known. draws_nothing s.moment s.identifiers) (draws_nothing s.moment s.identifiers)
@@ -133,7 +132,7 @@ module _ (laws : StepLaws) where
   hellos_draw : (s : SystemState) (effect : Effect) → OnlyHellos s effect → DrawsNone s.identifiers effect.after.identifiers effect.units
   hellos_draw s effect only = record { identifiers = only.rest.identifiers; whole = subst (AllByRecursion IsWhole) (sym only.units) tt }
 
-  content_draws : (s : SystemState) (from : Place) (to_group : Bool) (content : Content) → EffectDraws s (content_comes s from to_group content)
+  content_draws : (s : SystemState) (from : Neighbour) (to_group : Bool) (content : Content) → EffectDraws s (content_comes s from to_group content)
   content_draws s from to_group (Labelled p following) =
       let comes = packet_comes s from p following in
       let only = laws.hellos.answers comes.after from to_group p in

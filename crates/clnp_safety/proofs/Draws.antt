@@ -7,17 +7,16 @@ use Rattle.std.proofs.lemmas.List.Elements.{Contains-append_cases, Contains-get_
 use Rattle.std.proofs.lemmas.List.Quantifiers.{all_pairs_push}
 use Rattle.std.proofs.lemmas.Option.{none-some}
 use Rattle.clnp_machine.specs.Identifiers.{Identifiers, after_use, next, not_drawn}
-use Rattle.clnp_machine.specs.Unit as unit
-use Rattle.clnp_machine.specs.Unit.{DeclaredAt}
+use Rattle.clnp_machine.specs.Unit.{DataUnit, DeclaredAt}
 use Rattle.clnp_network.specs.Safe.{Rests}
 use Rattle.clnp_safety.specs.Invariant.{AreUsesUntil, EachRests, IsAccounted}
 use Rattle.clnp_safety.proofs.Uses.{accounted_later, made_long_ago, used_before, used_now, uses_after, uses_later}
 
 -- a unit that can't be segmented has no identifier
-abbrev pub IsWhole : unit.Unit → Type 0
+abbrev pub IsWhole : DataUnit → Type 0
 IsWhole u = u.identifier ≡ None
 
-pub whole_rest : (reuse : ℕ) (units made : List unit.Unit) → AllByRecursion IsWhole made → EachRests reuse units → EachRests reuse (units ++ made)
+pub whole_rest : (reuse : ℕ) (units made : List DataUnit) → AllByRecursion IsWhole made → EachRests reuse units → EachRests reuse (units ++ made)
 whole_rest reuse units [] are rest = subst (EachRests reuse) (sym (append-nil units)) rest
 whole_rest reuse units (u ∷ made) are rest =
     subst (EachRests reuse) (append_assoc units (u ∷ []) made)
@@ -26,41 +25,41 @@ whole_rest reuse units (u ∷ made) are rest =
     (λ k d within maker identifier first second. absurd (none-some identifier (sym are.0 ∙ second)))))
 
 -- no identifier is drawn, and none of the units has one
-pub record DrawsNone (before after : Identifiers) (units : List unit.Unit) : Type 0 where
+pub record DrawsNone (before after : Identifiers) (units : List DataUnit) : Type 0 where
   pub identifiers : after ≡ before
   pub whole : AllByRecursion IsWhole units
 
 -- the next identifier is drawn at a moment, as it may be, for the one unit
-pub record DrawsOne (now : ℕ) (before after : Identifiers) (units : List unit.Unit) : Type 0 where
-  pub made : unit.Unit
+pub record DrawsOne (now : ℕ) (before after : Identifiers) (units : List DataUnit) : Type 0 where
+  pub made : DataUnit
   pub only : units ≡ made ∷ []
   pub identified : made.identifier ≡ Some (next before)
   pub idle : not_drawn now before ≡ None
   pub identifiers : after ≡ after_use now before
 
-abbrev pub Draws : (now : ℕ) (before after : Identifiers) (units : List unit.Unit) → Type 0
+abbrev pub Draws : (now : ℕ) (before after : Identifiers) (units : List DataUnit) → Type 0
 Draws now before after units = DrawsNone before after units ⊎ DrawsOne now before after units
 
 -- the system at a place made the unit at a moment
-pub record IsMadeNow (now place : ℕ) (u : unit.Unit) : Type 0 where
+pub record IsMadeNow (now place : ℕ) (u : DataUnit) : Type 0 where
   pub maker : u.maker ≡ DeclaredAt place
   pub made : u.made ≡ now
 
 -- What holds until a moment of the identifiers of the system at a place, beside the units that were made.
-pub record AreSound (reuse now place : ℕ) (units : List unit.Unit) (ids : Identifiers) : Type 0 where
+pub record AreSound (reuse now place : ℕ) (units : List DataUnit) (ids : Identifiers) : Type 0 where
   pub reuse_is : ids.reuse ≡ reuse
   pub uses : AreUsesUntil now ids.uses
-  pub accounted : (u : unit.Unit) → Contains units u → u.maker ≡ DeclaredAt place → IsAccounted now ids u
+  pub accounted : (u : DataUnit) → Contains units u → u.maker ≡ DeclaredAt place → IsAccounted now ids u
 
 -- At a later moment the system makes units.
-module _ (reuse before now place : ℕ) (units : List unit.Unit) (ids : Identifiers) (later : before ≤ now) (sound : AreSound reuse before place units ids) where
+module _ (reuse before now place : ℕ) (units : List DataUnit) (ids : Identifiers) (later : before ≤ now) (sound : AreSound reuse before place units ids) where
   uses_now : AreUsesUntil now ids.uses
   uses_now = uses_later before now ids.uses later sound.uses
 
-  accounted_now : (u : unit.Unit) → Contains units u → u.maker ≡ DeclaredAt place → IsAccounted now ids u
+  accounted_now : (u : DataUnit) → Contains units u → u.maker ≡ DeclaredAt place → IsAccounted now ids u
   accounted_now u has maker = accounted_later before now ids u later (sound.accounted u has maker)
 
-  none_drawn : (after : Identifiers) (made : List unit.Unit) → AllByRecursion (IsMadeNow now place) made → DrawsNone ids after made
+  none_drawn : (after : Identifiers) (made : List DataUnit) → AllByRecursion (IsMadeNow now place) made → DrawsNone ids after made
       → AreSound reuse now place (units ++ made) after
   none_drawn after made new none = record {
     reuse_is = ap (λ (i : Identifiers). i.reuse) none.identifiers ∙ sound.reuse_is;
@@ -74,7 +73,7 @@ module _ (reuse before now place : ℕ) (units : List unit.Unit) (ids : Identifi
     ];
   }
 
-  module _ (u : unit.Unit) (new : IsMadeNow now place u) (identified : u.identifier ≡ Some (next ids)) (idle : not_drawn now ids ≡ None) where
+  module _ (u : DataUnit) (new : IsMadeNow now place u) (identified : u.identifier ≡ Some (next ids)) (idle : not_drawn now ids ≡ None) where
     one_drawn : AreSound reuse now place (units ++ u ∷ []) (after_use now ids)
     one_drawn = record {
       reuse_is = sound.reuse_is;
@@ -88,7 +87,7 @@ module _ (reuse before now place : ℕ) (units : List unit.Unit) (ids : Identifi
     }
 
     -- a unit of its maker with its identifier was made long before
-    rests_before : (v : unit.Unit) → Contains units v → Rests reuse v u
+    rests_before : (v : DataUnit) → Contains units v → Rests reuse v u
     rests_before v has maker identifier id_v id_u =
         let was = accounted_now v has (maker ∙ new.maker) in
         let long_ago = made_long_ago now ids v uses_now was.used (id_v ∙ sym id_u ∙ identified) idle in
@@ -96,7 +95,7 @@ module _ (reuse before now place : ℕ) (units : List unit.Unit) (ids : Identifi
         let at = new.made in
         omega arith
 
-  module _ (after : Identifiers) (made : List unit.Unit) (new : AllByRecursion (IsMadeNow now place) made) where
+  module _ (after : Identifiers) (made : List DataUnit) (new : AllByRecursion (IsMadeNow now place) made) where
     pub sound_after : Draws now ids after made → AreSound reuse now place (units ++ made) after
     sound_after (inl none) = none_drawn after made new none
     sound_after (inr one) =

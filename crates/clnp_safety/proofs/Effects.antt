@@ -11,16 +11,15 @@ use Rattle.clnp_machine.specs.ClnpPlan.Configuration.{SystemConfiguration}
 use Rattle.clnp_machine.specs.ClnpPlan.declared.note.Note.{Note}
 use Rattle.clnp_machine.specs.Reassembly.Arrival.{Arrival}
 use Rattle.clnp_machine.specs.Reassembly.Buffer.{Buffer}
-use Rattle.clnp_machine.specs.Unit as unit
-use Rattle.clnp_machine.specs.Unit.{DeclaredAt, Packet}
+use Rattle.clnp_machine.specs.Unit.{DataUnit, DeclaredAt, Packet}
 use Rattle.clnp_machine.specs.Content.{Labelled, Esis, Unlabelled}
 use Rattle.clnp_machine.specs.System.{SystemState, Input, AsksToSend, AsksForEcho, FrameComes, Output, Transmits, SendsEsis, Notes, Effect}
 use Rattle.clnp_machine.specs.Local.{IsAsOffered}
 use Rattle.clnp_machine.specs.Step.{step}
-use Rattle.clnp_machine.specs.Steps.{GoesOnOf, IsAtHand, IsFair, IsFresh, IsMadeFor, IsNoRestart, IsRangeOf, KeepsAsOffered, NotesOnly, ReportsOn, RestartsNothing, SendsCarriable, SendsEsisPdus, SendsRangesOrGoesOn, WasPendingOrMade, moment_after, segments_in}
+use Rattle.clnp_machine.specs.EveryStep.{GoesOnOf, IsAtHand, IsFair, IsFresh, IsMadeFor, IsNoRestart, IsRangeOf, KeepsAsOffered, NotesOnly, ReportsOn, RestartsNothing, SendsCarriable, SendsEsisPdus, SendsRangesOrGoesOn, WasPendingOrMade, moment_after, segments_in}
 use Rattle.clnp_machine.specs.Told.{SpellsPdus}
 use Rattle.clnp_network.specs.Run.{Entry}
-use Rattle.clnp_network.specs.World.{World, takes_effect}
+use Rattle.clnp_network.specs.LabelledNetwork.{LabelledNetwork, takes_effect}
 use Rattle.clnp_safety.specs.Growth.{IsFront}
 use Rattle.clnp_safety.specs.Invariant.{BufferIsSound, EachRests, IsMadeOn, IsOfUnit, IsPending, SystemIsSound, SystemStands, UnitIsSound, UnitsAreSound}
 use Rattle.clnp_safety.specs.StepLaws.{StepLaws}
@@ -38,13 +37,13 @@ use Rattle.clnp_safety.proofs.Honest.{AsksNothing, ComesSoundly, NoteIsHonest, N
 -- What a step gives out is sound, where its notes are: what it sends is of units that are made in it, or of that of the packet
 -- that came.
 
-range_goes_on : StepLaws → (units : List unit.Unit) (s : SystemState) (port : ℕ) (input : Input) (p : Packet) → ComesSoundly units input → GoesOnOf s port input p
+range_goes_on : StepLaws → (units : List DataUnit) (s : SystemState) (port : ℕ) (input : Input) (p : Packet) → ComesSoundly units input → GoesOnOf s port input p
     → IsRangeOf units p
 range_goes_on laws units s port (FrameComes at sender to_group (Labelled came following)) p comes on =
     packet_goes_on laws units s port came p on comes.1.0 comes.2
 range_goes_on laws units s port _ p comes on = absurd on
 
-module _ (laws : StepLaws) (Q : Note → Type 0) (units made : List unit.Unit) (s : SystemState) (input : Input) (comes : ComesSoundly units input) where
+module _ (laws : StepLaws) (Q : Note → Type 0) (units made : List DataUnit) (s : SystemState) (input : Input) (comes : ComesSoundly units input) where
   output_is_sound : (output : Output) → SendsRangesOrGoesOn s input made output → SendsCarriable output → SendsEsisPdus output → NotesOnly Q output
       → OutputIsSound Q (units ++ made) output
   output_is_sound (Transmits port target packet) sends carriable pdus notes = (
@@ -67,7 +66,7 @@ module _ (laws : StepLaws) (Q : Note → Type 0) (units made : List unit.Unit) (
 
 -- What is kept.
 
-module _ (plan : Plan) (units : List unit.Unit) (P : Arrival Packet → Type 0) (each : (u : unit.Unit) (arrival : Arrival Packet) → IsOfUnit units u arrival → P arrival) where
+module _ (plan : Plan) (units : List DataUnit) (P : Arrival Packet → Type 0) (each : (u : DataUnit) (arrival : Arrival Packet) → IsOfUnit units u arrival → P arrival) where
   segments_are : (buffers : List (Buffer Packet)) → AllByRecursion (BufferIsSound plan units) buffers → AllByRecursion P (segments_in buffers)
   segments_are [] sound = tt
   segments_are (buffer ∷ buffers) sound =
@@ -75,11 +74,11 @@ module _ (plan : Plan) (units : List unit.Unit) (P : Arrival Packet → Type 0) 
       (AllByRecursion-implies (IsOfUnit units sound.0.unit) P (each sound.0.unit) buffer.kept sound.0.kept)
       (segments_are buffers sound.1)
 
-kept_as_offered : (plan : Plan) (units : List unit.Unit) (s : SystemState) → AllByRecursion (BufferIsSound plan units) s.buffers → KeepsAsOffered s
+kept_as_offered : (plan : Plan) (units : List DataUnit) (s : SystemState) → AllByRecursion (BufferIsSound plan units) s.buffers → KeepsAsOffered s
 kept_as_offered plan units s sound =
     segments_are plan units IsAsOffered (λ u arrival of. record { following = []; is_offered = of.offered; carriable = of.carriable }) s.buffers sound
 
-kept_are_ranges : (plan : Plan) (units : List unit.Unit) (s : SystemState) → AllByRecursion (BufferIsSound plan units) s.buffers
+kept_are_ranges : (plan : Plan) (units : List DataUnit) (s : SystemState) → AllByRecursion (BufferIsSound plan units) s.buffers
     → AllByRecursion (IsRangeOf units) (map (λ (arrival : Arrival Packet). arrival.carried) (segments_in s.buffers))
 kept_are_ranges plan units s sound =
     AllByRecursion-mapped (λ (arrival : Arrival Packet). IsRangeOf units arrival.carried) (IsRangeOf units) (λ (arrival : Arrival Packet). arrival.carried)
@@ -87,7 +86,7 @@ kept_are_ranges plan units s sound =
     (segments_are plan units (λ (arrival : Arrival Packet). IsRangeOf units arrival.carried) (λ u arrival of. of.packet) s.buffers sound)
 
 -- a packet that is at hand is a range of a unit
-at_hand_is_range : (units : List unit.Unit) (s : SystemState) (input : Input) (p : Packet) → ComesSoundly units input
+at_hand_is_range : (units : List DataUnit) (s : SystemState) (input : Input) (p : Packet) → ComesSoundly units input
     → AllByRecursion (IsRangeOf units) (map (λ (arrival : Arrival Packet). arrival.carried) (segments_in s.buffers)) → IsAtHand s input p → IsRangeOf units p
 at_hand_is_range units s (FrameComes port sender to_group (Labelled came following)) p comes kept at =
     elim at [
@@ -97,20 +96,20 @@ at_hand_is_range units s (FrameComes port sender to_group (Labelled came followi
 at_hand_is_range units s _ p comes kept at =
     AllByRecursion-contains (IsRangeOf units) (map (λ (arrival : Arrival Packet). arrival.carried) (segments_in s.buffers)) p at kept
 
-comes_fairly : (units : List unit.Unit) (input : Input) → AsksNothing input → ComesSoundly units input → IsFair input
+comes_fairly : (units : List DataUnit) (input : Input) → AsksNothing input → ComesSoundly units input → IsFair input
 comes_fairly units (AsksToSend from to octets ask) nothing comes = absurd nothing
 comes_fairly units (AsksForEcho from to octets) nothing comes = absurd nothing
 comes_fairly units (FrameComes port sender to_group content) nothing comes = (comes.0, comes.2)
 comes_fairly units _ nothing comes = tt
 
-spells_pdus : (units : List unit.Unit) (input : Input) → ComesSoundly units input → SpellsPdus input
+spells_pdus : (units : List DataUnit) (input : Input) → ComesSoundly units input → SpellsPdus input
 spells_pdus units (FrameComes port sender to_group (Labelled packet following)) comes = tt
 spells_pdus units (FrameComes port sender to_group (Esis value following)) comes = tt
 spells_pdus units (FrameComes port sender to_group (Unlabelled octets)) comes = absurd comes.1
 spells_pdus units _ comes = tt
 
 -- who isn't asked makes reports and replies
-made_unasked : (input : Input) (u : unit.Unit) → AsksNothing input → IsMadeFor input u → (u.kind ≡ Er) ⊎ (u.kind ≡ Erp)
+made_unasked : (input : Input) (u : DataUnit) → AsksNothing input → IsMadeFor input u → (u.kind ≡ Er) ⊎ (u.kind ≡ Erp)
 made_unasked (AsksToSend from to octets ask) u nothing for = absurd nothing
 made_unasked (AsksForEcho from to octets) u nothing for = absurd nothing
 made_unasked _ u nothing for = for
@@ -119,8 +118,8 @@ no_request : (kind : Kind) → (kind ≡ Er) ⊎ (kind ≡ Erp) → kind ≡ Erq
 no_request kind made e = elim made [ inl er ↦ absurd (let same : Er ≡ Erq = sym er ∙ e in cc) | inr erp ↦ absurd (let same : Erp ≡ Erq = sym erp ∙ e in cc) ]
 
 -- a unit that is made now is sound, where it is founded
-pub fresh_is_sound : (plan : Plan) (past : List Entry) (units : List unit.Unit) (place : ℕ) (s : SystemState) → SystemIsSound plan units place s
-    → (moment : ℕ) (u : unit.Unit) → IsFresh s moment u → IsMadeOn plan past units u.kind u → UnitIsSound plan past units u
+pub fresh_is_sound : (plan : Plan) (past : List Entry) (units : List DataUnit) (place : ℕ) (s : SystemState) → SystemIsSound plan units place s
+    → (moment : ℕ) (u : DataUnit) → IsFresh s moment u → IsMadeOn plan past units u.kind u → UnitIsSound plan past units u
 fresh_is_sound plan past units place s sound moment u fresh founded = record {
   founded = founded;
   place = place;
@@ -131,7 +130,7 @@ fresh_is_sound plan past units place s sound moment u fresh founded = record {
 }
 
 -- the system at a place stands, and X holds of it
-pub record StandsWith (plan : Plan) (past : List Entry) (before : List unit.Unit) (X : (place : ℕ) → SystemState → Type 0) (units : List unit.Unit)
+pub record StandsWith (plan : Plan) (past : List Entry) (before : List DataUnit) (X : (place : ℕ) → SystemState → Type 0) (units : List DataUnit)
     (place : ℕ) (s : SystemState) : Type 0 where
   pub stands : SystemStands plan past before units place s
   pub also : X place s
@@ -140,15 +139,15 @@ pub record StandsWith (plan : Plan) (past : List Entry) (before : List unit.Unit
 abbrev pub AnySystem : (place : ℕ) → SystemState → Type 0
 AnySystem place s = Unit {0}
 
-module _ (plan : Plan) (past : List Entry) (base : World) where
+module _ (plan : Plan) (past : List Entry) (base : LabelledNetwork) where
   -- the units of a world are sound, and more than those of the world before the move; the system at each place stands, X holds of
   -- it, and the copies are sound
-  pub record IsSoundWith (X : (place : ℕ) → SystemState → Type 0) (w : World) : Type 0 where
+  pub record IsSoundWith (X : (place : ℕ) → SystemState → Type 0) (w : LabelledNetwork) : Type 0 where
     pub made : UnitsAreSound plan past w.units
     pub front : IsFront base.units w.units
     pub stands : Stands w.units (length plan.systems) (StandsWith plan past base.units X w.units) w
 
-  sound_with : (X : (place : ℕ) → SystemState → Type 0) (units : List unit.Unit) (w : World) → UnitsAreSound plan past units
+  sound_with : (X : (place : ℕ) → SystemState → Type 0) (units : List DataUnit) (w : LabelledNetwork) → UnitsAreSound plan past units
       → IsFront base.units units → Stands units (length plan.systems) (StandsWith plan past base.units X units) w → IsSoundWith X w
   sound_with X units w made front h = record {
     made = subst (λ us. UnitsAreSound plan past us) (sym h.made) made;
@@ -157,7 +156,7 @@ module _ (plan : Plan) (past : List Entry) (base : World) where
   }
 
 module _ (laws : StepLaws) (plan : Plan) (fit : IsFit plan) (past : List Entry) where
-  module _ (units : List unit.Unit) (place : ℕ) (s : SystemState) (sound : SystemIsSound plan units place s) (input : Input)
+  module _ (units : List DataUnit) (place : ℕ) (s : SystemState) (sound : SystemIsSound plan units place s) (input : Input)
       (comes : ComesSoundly units input) where
     pub step_gives_soundly : (Q : Note → Type 0) → IsFair input → AllByRecursion (NotesOnly Q) (step s input).outputs
         → AllByRecursion (OutputIsSound Q (units ++ (step s input).units)) (step s input).outputs
@@ -168,7 +167,7 @@ module _ (laws : StepLaws) (plan : Plan) (fit : IsFit plan) (past : List Entry) 
         (laws.steps.esis_pdus s input is.0 is.1.own sound.attached.next fair sound.known) notes
 
     -- other systems stay as they are where the system makes units
-    pub others_stand : (before_move : List unit.Unit) (other : ℕ) (t : SystemState) → other ≢ place
+    pub others_stand : (before_move : List DataUnit) (other : ℕ) (t : SystemState) → other ≢ place
         → SystemStands plan past before_move units other t → SystemStands plan past before_move (units ++ (step s input).units) other t
     others_stand before_move other t apart h =
         let made = (step s input).units in
@@ -199,7 +198,7 @@ module _ (laws : StepLaws) (plan : Plan) (fit : IsFit plan) (past : List Entry) 
         }
 
     module _ (nothing : AsksNothing input) where
-      report_is_founded : (u : unit.Unit) → u.kind ≡ Er → ReportsOn s input u → IsMadeOn plan past units u.kind u
+      report_is_founded : (u : DataUnit) → u.kind ≡ Er → ReportsOn s input u → IsMadeOn plan past units u.kind u
       report_is_founded u er reports =
           let on = reports er in
           subst (λ kind. IsMadeOn plan past units kind u) (sym er)
@@ -211,7 +210,7 @@ module _ (laws : StepLaws) (plan : Plan) (fit : IsFit plan) (past : List Entry) 
             data_are = on.2.data_are;
           })
 
-      new_unit_is_sound : (u : unit.Unit) → IsFresh s (moment_after s input) u → IsMadeFor input u × ReportsOn s input u × RepliesInOctets u → UnitIsSound plan past units u
+      new_unit_is_sound : (u : DataUnit) → IsFresh s (moment_after s input) u → IsMadeFor input u × ReportsOn s input u × RepliesInOctets u → UnitIsSound plan past units u
       new_unit_is_sound u fresh for =
           fresh_is_sound plan past units place s sound (moment_after s input) u fresh
           (elim (made_unasked input u nothing for.0) [
@@ -234,7 +233,7 @@ module _ (laws : StepLaws) (plan : Plan) (fit : IsFit plan) (past : List Entry) 
       units_after made rest replies = units_with plan past units (step s input).units made rest (new_units_are_sound replies)
 
     -- what is pending after a step was pending before it
-    pub pending_after : AsksNothing input → (before_move : List unit.Unit) → AllByRecursion (IsPending past before_move place s.configuration.name) s.pending
+    pub pending_after : AsksNothing input → (before_move : List DataUnit) → AllByRecursion (IsPending past before_move place s.configuration.name) s.pending
         → AllByRecursion (IsPending past before_move place (step s input).after.configuration.name) (step s input).after.pending
     pending_after nothing before_move pending =
         let after = (step s input).after in
@@ -250,7 +249,7 @@ module _ (laws : StepLaws) (plan : Plan) (fit : IsFit plan) (past : List Entry) 
 
   -- Notes that are honest tell of no restart where there is none.
 
-  module _ (w : World) (name : List ℕ) (s : SystemState) (input : Input)
+  module _ (w : LabelledNetwork) (name : List ℕ) (s : SystemState) (input : Input)
       (honest : AllByRecursion (NotesOnly (NoteIsHonest plan past w name)) (step s input).outputs) where
     output_notes_both : (P Q R : Note → Type 0) → ((note : Note) → P note → Q note → R note) → (output : Output) → NotesOnly P output → NotesOnly Q output
         → NotesOnly R output
@@ -264,16 +263,16 @@ module _ (laws : StepLaws) (plan : Plan) (fit : IsFit plan) (past : List Entry) 
         (output_notes_both (NoteIsHonest plan past w name) IsNoRestart (NoteIsSteady plan past w name) (λ note h k. record { honest = h; no_restart = k }))
         (step s input).outputs honest (laws.steps.no_restart s input steady)
 
-  module _ (base : World) (N : List ℕ → Note → Type 0) (X Y : (place : ℕ) → SystemState → Type 0) where
+  module _ (base : LabelledNetwork) (N : List ℕ → Note → Type 0) (X Y : (place : ℕ) → SystemState → Type 0) where
     -- a system that stands takes a step that is asked nothing, and leaves what is sound
-    pub step_keeps : (w : World) (place : ℕ) (s : SystemState) (input : Input) → SystemStands plan past base.units w.units place s → AsksNothing input
+    pub step_keeps : (w : LabelledNetwork) (place : ℕ) (s : SystemState) (input : Input) → SystemStands plan past base.units w.units place s → AsksNothing input
         → ComesSoundly w.units input → EffectIsSound plan past base s.configuration.name w.units place (step s input)
         → ((other : ℕ) (t : SystemState) → other ≢ place → X other t → Y other t) → Y place (step s input).after
         → AllByRecursion (NotesOnly (N s.configuration.name)) (step s input).outputs
         → IsSoundWith plan past base X w → Keeps (IsSoundWith plan past base Y) (LineIs N) (takes_effect w place (step s input))
     step_keeps w place s input it nothing comes done others here notes k =
         let effect : Effect = step s input in
-        let later : List unit.Unit = w.units ++ effect.units in
+        let later : List DataUnit = w.units ++ effect.units in
         let outputs = subst (λ (c : SystemConfiguration). AllByRecursion (OutputIsSound (N c.name) later) effect.outputs)
         (sym (laws.steps.itself s input).configuration)
         (step_gives_soundly w.units place s it.sound input comes (N s.configuration.name) (comes_fairly w.units input nothing comes) notes) in

@@ -10,13 +10,12 @@ use Rattle.clnp_machine.specs.PduHeader.declared.kind.Kind.TheVariants.{Er, Erp}
 use Rattle.clnp_machine.specs.Echo.Match.{echoes}
 use Rattle.clnp_network.specs.Scenario.Scenario.{IsFit, Plan}
 use Rattle.clnp_machine.specs.ClnpPlan.Configuration.{SystemConfiguration}
-use Rattle.clnp_machine.specs.Unit as unit
-use Rattle.clnp_machine.specs.Unit.{DeclaredAt}
+use Rattle.clnp_machine.specs.Unit.{DataUnit, DeclaredAt}
 use Rattle.clnp_machine.specs.System.{SystemState}
 use Rattle.clnp_machine.specs.Local.{is_answer, is_own}
-use Rattle.clnp_network.specs.World.{World}
+use Rattle.clnp_network.specs.LabelledNetwork.{LabelledNetwork}
 use Rattle.clnp_network.specs.Run.{Entry}
-use Rattle.clnp_machine.specs.Steps.{IsRangeOf}
+use Rattle.clnp_machine.specs.EveryStep.{IsRangeOf}
 use Rattle.clnp_network.specs.Safe.{IsAnswered, IsHeaderOfOwn, ReportsOnCopy, ReportsStand, RequestedSinceRestart, StandsInCopy}
 use Rattle.clnp_safety.specs.Invariant.{Carries, CopyIsSound, IsMadeOn, IsPending, Owns, UnitIsSound, WorldIsSound}
 use Rattle.clnp_safety.specs.StepLaws.{StepLaws}
@@ -30,7 +29,7 @@ owned s address there =
     list_any-from_Any (λ other. bytes_eq other address) s.configuration.addresses
     (there.0, address, there.1, there.2, same-itself address)
 
-module _ (laws : StepLaws) (plan : Plan) (fit : IsFit plan) (past : List Entry) (w : World) (h : WorldIsSound plan past w)
+module _ (laws : StepLaws) (plan : Plan) (fit : IsFit plan) (past : List Entry) (w : LabelledNetwork) (h : WorldIsSound plan past w)
     (stood : ReportsStand w) where
   -- the system at a place of a world, as it is declared
   record IsDeclared (place : ℕ) (configuration : SystemConfiguration) : Type 0 where
@@ -49,7 +48,7 @@ module _ (laws : StepLaws) (plan : Plan) (fit : IsFit plan) (past : List Entry) 
         same = same_Some found.0.configuration configuration (sym (h.systems.each place found.0 found.1).sound.declared ∙ declared);
       }
 
-  module _ (u : unit.Unit) (made : Contains w.units u) where
+  module _ (u : DataUnit) (made : Contains w.units u) where
     it : UnitIsSound plan past w.units u
     it = unit_sound plan past w.units u h.made made
 
@@ -57,7 +56,7 @@ module _ (laws : StepLaws) (plan : Plan) (fit : IsFit plan) (past : List Entry) 
       pub report_is_founded : u.kind ≡ Er → is_own s u.destination ≡ true → IsHeaderOfOwn w s.configuration.name u.octets
       report_is_founded er own =
           let report : ReportsOnCopy w.copies u =
-          AllByRecursion-contains (λ (v : unit.Unit). v.kind ≡ Er → ReportsOnCopy w.copies v) w.units u made stood er in
+          AllByRecursion-contains (λ (v : DataUnit). v.kind ≡ Er → ReportsOnCopy w.copies v) w.units u made stood er in
           let carrier = AllByRecursion-contains (CopyIsSound w.units) w.copies report.stands.copy report.stands.there h.copies in
           let carried : IsRangeOf w.units report.packet × (report.following ≡ []) = subst (Carries (IsRangeOf w.units)) report.stands.carries carrier.carries in
           let of = unit_sound plan past w.units report.packet.unit h.made carried.0.unit in
@@ -76,7 +75,7 @@ module _ (laws : StepLaws) (plan : Plan) (fit : IsFit plan) (past : List Entry) 
             header = report.report.data_are;
           }
 
-      module _ (request : unit.Unit) (pending : IsPending past w.units place s.configuration.name request) where
+      module _ (request : DataUnit) (pending : IsPending past w.units place s.configuration.name request) where
         pub reply_is_founded : u.kind ≡ Erp → is_answer u.source u.destination u.octets request ≡ true
             → IsAnswered w past s.configuration.name u.source u.destination request.number
         reply_is_founded erp answers =

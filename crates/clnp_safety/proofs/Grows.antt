@@ -18,14 +18,14 @@ use Rattle.clnp_machine.specs.Content.{Content, Labelled, Esis}
 use Rattle.clnp_machine.specs.Change.{PortIsAt, PortTakes, RouteIsGone, RouteIsSet}
 use Rattle.clnp_machine.specs.System.{SystemState, Input, AsksToSend, AsksForEcho, MomentComes, IsRestarted, IsCongested, IsChanged, Output, Transmits, SendsEsis, Notes, Effect}
 use Rattle.clnp_machine.specs.Step.{step}
-use Rattle.clnp_network.specs.World.{World, Copy, copy_from, copy_from_outside, sends_frame, put_out, with_effect, takes_effect, comes, asks, frame_to, addressees_from, settle_copy, deliver, lose_copy, goes_on, tick_alone, tick_each, tick_one, injects, moved, moves_port, removes_route, resizes, sets_route, event_happens, after, first_world}
+use Rattle.clnp_network.specs.LabelledNetwork.{LabelledNetwork, Copy, copy_from, copy_from_outside, sends_frame, put_out, with_effect, takes_effect, comes, asks, frame_to, addressees_from, settle_copy, deliver, lose_copy, goes_on, tick_alone, tick_each, tick_one, injects, moved, moves_port, removes_route, resizes, sets_route, event_happens, after, first_world}
 use Rattle.clnp_network.specs.Run.{world_after}
 use Rattle.clnp_safety.specs.Growth.{IsFront, IsWithinCopies}
 use Rattle.clnp_safety.proofs.Lines.{AnyLine, any_line_changes, any_line_is_fine}
 use Rattle.clnp_safety.proofs.Steps.{Keeps, keeps-nothing, keeps-followed_by, keeps-put_all_out, keeps-comes_to, keeps-asks, keeps-give_each, keeps-deliver, keeps-injects, keeps-moves_port, keeps-removes_route, keeps-resizes, keeps-sets_route}
 
 -- a world with more copies behind these, and this cursor
-record Grown (copies : List Copy) (cursor : ℕ) (w : World) : Type 0 where
+record Grown (copies : List Copy) (cursor : ℕ) (w : LabelledNetwork) : Type 0 where
   front : IsFront copies w.copies
   at : w.cursor ≡ cursor
 
@@ -33,7 +33,7 @@ pub front-more : {A : Type 0} (xs ys zs : List A) → IsFront xs ys → IsFront 
 front-more xs ys zs h = (h.0 ++ zs, ap (λ l. l ++ zs) h.1 ∙ append_assoc xs h.0 zs)
 
 module _ (copies : List Copy) (cursor : ℕ) where
-  frame_grows : (system : SystemState) (v : World) (port : ℕ) (target : Target) (maker : Maker) (birth : ℕ) (content : Content) → Grown copies cursor v
+  frame_grows : (system : SystemState) (v : LabelledNetwork) (port : ℕ) (target : Target) (maker : Maker) (birth : ℕ) (content : Content) → Grown copies cursor v
       → Keeps (Grown copies cursor) AnyLine (sends_frame system v port target maker birth content)
   frame_grows system v port target maker birth content k = record {
     world = record {
@@ -43,7 +43,7 @@ module _ (copies : List Copy) (cursor : ℕ) where
     lines = (tt, tt);
   }
 
-  put_out_grows : (system : SystemState) (output : Output) (v : World) → Grown copies cursor v
+  put_out_grows : (system : SystemState) (output : Output) (v : LabelledNetwork) → Grown copies cursor v
       → Keeps (Grown copies cursor) AnyLine (put_out system v output)
   put_out_grows system (Notes note) v k = record { world = k; lines = (tt, tt) }
   put_out_grows system (Transmits port target packet) v k =
@@ -51,33 +51,33 @@ module _ (copies : List Copy) (cursor : ℕ) where
   put_out_grows system (SendsEsis port target value) v k =
       frame_grows system v port target (DeclaredAt system.place) system.moment (Esis value []) k
 
-  takes_effect_grows : (w : World) (place : ℕ) (effect : Effect) → Grown copies cursor w → Keeps (Grown copies cursor) AnyLine (takes_effect w place effect)
+  takes_effect_grows : (w : LabelledNetwork) (place : ℕ) (effect : Effect) → Grown copies cursor w → Keeps (Grown copies cursor) AnyLine (takes_effect w place effect)
   takes_effect_grows w place effect k =
       keeps-put_all_out (Grown copies cursor) AnyLine effect.after effect.outputs
-      (AllByRecursion-any (λ output. (v : World) → Grown copies cursor v → Keeps (Grown copies cursor) AnyLine (put_out effect.after v output))
+      (AllByRecursion-any (λ output. (v : LabelledNetwork) → Grown copies cursor v → Keeps (Grown copies cursor) AnyLine (put_out effect.after v output))
       (put_out_grows effect.after) effect.outputs)
       (with_effect w place effect) (record { front = k.front; at = k.at })
 
-  comes_grows : (w : World) (place : ℕ) (input : Input) → Grown copies cursor w → Keeps (Grown copies cursor) AnyLine (comes w place input)
+  comes_grows : (w : LabelledNetwork) (place : ℕ) (input : Input) → Grown copies cursor w → Keeps (Grown copies cursor) AnyLine (comes w place input)
   comes_grows w place input k =
       keeps-comes_to (Grown copies cursor) AnyLine w place input (slice_get w.systems place) (λ none. k) (λ s there. takes_effect_grows w place (step s input) k)
 
-  goes_on_grows : (w : World) (place : ℕ) (found : Option SystemState) → Grown copies cursor w → Keeps (Grown copies cursor) AnyLine (goes_on w place found)
+  goes_on_grows : (w : LabelledNetwork) (place : ℕ) (found : Option SystemState) → Grown copies cursor w → Keeps (Grown copies cursor) AnyLine (goes_on w place found)
   goes_on_grows w place None k = keeps-nothing (Grown copies cursor) AnyLine w k
   goes_on_grows w place (Some s) k = comes_grows w place (MomentComes (s.moment + 1)) k
 
-  tick_each_grows : (places : List ℕ) (w : World) → Grown copies cursor w → Keeps (Grown copies cursor) AnyLine (tick_each w places)
+  tick_each_grows : (places : List ℕ) (w : LabelledNetwork) → Grown copies cursor w → Keeps (Grown copies cursor) AnyLine (tick_each w places)
   tick_each_grows [] w k = keeps-nothing (Grown copies cursor) AnyLine w k
   tick_each_grows (place ∷ places) w k =
       keeps-followed_by (Grown copies cursor) AnyLine (Grown copies cursor) (goes_on w place (slice_get w.systems place)) (λ v. tick_each v places)
       (goes_on_grows w place (slice_get w.systems place) k) (tick_each_grows places)
 
 -- the world after a move, with the copies before it as a front, and the cursor within them
-record GrowsFrom (w v : World) : Type 0 where
+record GrowsFrom (w v : LabelledNetwork) : Type 0 where
   front : IsFront w.copies v.copies
   within : IsWithinCopies w → IsWithinCopies v
 
-grows_to : (w v : World) (cursor : ℕ) → (IsWithinCopies w → cursor ≤ length w.copies) → Grown w.copies cursor v → GrowsFrom w v
+grows_to : (w v : LabelledNetwork) (cursor : ℕ) → (IsWithinCopies w → cursor ≤ length w.copies) → Grown w.copies cursor v → GrowsFrom w v
 grows_to w v cursor bound h = record {
   front = h.front;
   within = λ k.
@@ -87,20 +87,20 @@ grows_to w v cursor bound h = record {
       omega arith;
 }
 
-stays : (w : World) → Grown w.copies w.cursor w
+stays : (w : LabelledNetwork) → Grown w.copies w.cursor w
 stays w = record { front = ([], sym (append-nil w.copies)); at = refl }
 
 -- a system that takes a step only adds copies
-pub effect_copies : (w : World) (place : ℕ) (effect : Effect) → IsFront w.copies (takes_effect w place effect).world.copies
+pub effect_copies : (w : LabelledNetwork) (place : ℕ) (effect : Effect) → IsFront w.copies (takes_effect w place effect).world.copies
 effect_copies w place effect = (takes_effect_grows w.copies w.cursor w place effect (stays w)).world.front
 
-nothing_grows : (w : World) → GrowsFrom w w
+nothing_grows : (w : LabelledNetwork) → GrowsFrom w w
 nothing_grows w = grows_to w w w.cursor (λ k. k) (stays w)
 
-does_grow : (w : World) (place : ℕ) (input : Input) → GrowsFrom w (comes w place input).world
+does_grow : (w : LabelledNetwork) (place : ℕ) (input : Input) → GrowsFrom w (comes w place input).world
 does_grow w place input = grows_to w (comes w place input).world w.cursor (λ k. k) (comes_grows w.copies w.cursor w place input (stays w)).world
 
-event_grows : (subnets : List Subnetwork) (limits : Limits) (w : World) (asked : Option Event) → GrowsFrom w (event_happens subnets limits w asked).world
+event_grows : (subnets : List Subnetwork) (limits : Limits) (w : LabelledNetwork) (asked : Option Event) → GrowsFrom w (event_happens subnets limits w asked).world
 event_grows subnets limits w None = nothing_grows w
 event_grows subnets limits w (Some (Settle count)) = nothing_grows w
 event_grows subnets limits w (Some (Lose count)) = nothing_grows w
@@ -141,7 +141,7 @@ event_grows subnets limits w (Some (Port system number subnet snpa)) =
     (λ s port mtu there has takes.
     comes_grows w.copies w.cursor w system (IsChanged (PortIsAt number (moved port subnet mtu snpa))) (stays w))).world
 
-settle_copy_grows : (limits : Limits) (w : World) (found : Option Copy) → ((copy : Copy) → found ≡ Some copy → w.cursor + 1 ≤ length w.copies)
+settle_copy_grows : (limits : Limits) (w : LabelledNetwork) (found : Option Copy) → ((copy : Copy) → found ≡ Some copy → w.cursor + 1 ≤ length w.copies)
     → GrowsFrom w (settle_copy limits w found).world
 settle_copy_grows limits w None bound = nothing_grows w
 settle_copy_grows limits w (Some copy) bound =
@@ -150,21 +150,21 @@ settle_copy_grows limits w (Some copy) bound =
     (λ v place k s there soon. takes_effect_grows w.copies (w.cursor + 1) v place (step s (frame_to s copy)) k)
     (record w { cursor = w.cursor + 1 }) (record { front = ([], sym (append-nil w.copies)); at = refl })).world
 
-lose_copy_grows : (w : World) (found : Option Copy) → ((copy : Copy) → found ≡ Some copy → w.cursor + 1 ≤ length w.copies)
+lose_copy_grows : (w : LabelledNetwork) (found : Option Copy) → ((copy : Copy) → found ≡ Some copy → w.cursor + 1 ≤ length w.copies)
     → GrowsFrom w (lose_copy w found).world
 lose_copy_grows w None bound = nothing_grows w
 lose_copy_grows w (Some copy) bound =
     grows_to w (lose_copy w (Some copy)).world (w.cursor + 1) (λ k. bound copy refl)
     (record { front = ([], sym (append-nil w.copies)); at = refl })
 
-tick_alone_grows : (w : World) (place : ℕ) (found : Option SystemState) → GrowsFrom w (tick_alone w place found).world
+tick_alone_grows : (w : LabelledNetwork) (place : ℕ) (found : Option SystemState) → GrowsFrom w (tick_alone w place found).world
 tick_alone_grows w place None = nothing_grows w
 tick_alone_grows w place (Some s) =
     grows_to w (tick_alone w place (Some s)).world w.cursor (λ k. k)
     (goes_on_grows w.copies w.cursor (record w { clock = max w.clock (s.moment + 1) }) place (Some s)
     (record { front = ([], sym (append-nil w.copies)); at = refl })).world
 
-move_grows : (plan : Plan) (w : World) (move : Move) → GrowsFrom w (after plan w move).world
+move_grows : (plan : Plan) (w : LabelledNetwork) (move : Move) → GrowsFrom w (after plan w move).world
 move_grows plan w (One place) = event_grows plan.subnets plan.limits w (slice_get plan.events place)
 move_grows plan w SettleOne =
     settle_copy_grows plan.limits w (slice_get w.copies w.cursor)
@@ -178,10 +178,10 @@ move_grows plan w TickOne =
     (record { front = ([], sym (append-nil w.copies)); at = refl })).world
 move_grows plan w (TickSystem place) = tick_alone_grows w place (slice_get w.systems place)
 
-pub copies_stay : (plan : Plan) (w : World) (move : Move) → IsFront w.copies (after plan w move).world.copies
+pub copies_stay : (plan : Plan) (w : LabelledNetwork) (move : Move) → IsFront w.copies (after plan w move).world.copies
 copies_stay plan w move = (move_grows plan w move).front
 
-within_copies_after : (plan : Plan) (moves : List Move) (w : World) → IsWithinCopies w → IsWithinCopies (world_after plan w moves)
+within_copies_after : (plan : Plan) (moves : List Move) (w : LabelledNetwork) → IsWithinCopies w → IsWithinCopies (world_after plan w moves)
 within_copies_after plan [] w h = h
 within_copies_after plan (move ∷ moves) w h =
     within_copies_after plan moves (after plan w move).world ((move_grows plan w move).within h)

@@ -4,12 +4,12 @@ use Rattle.std.proofs.Common.{◌≡◌, ◌∙◌, sym, ap, subst, ℕ, List, �
 use Rattle.std.specs.List.{AllByRecursion}
 use Rattle.std.proofs.lemmas.List.{append-nil}
 use Rattle.clnp_network.specs.Scenario.Scenario.{Plan}
-use Rattle.clnp_machine.specs.Unit as unit
+use Rattle.clnp_machine.specs.Unit.{DataUnit}
 use Rattle.clnp_machine.specs.System.{SystemState, Effect, then_does}
 use Rattle.clnp_machine.specs.Local.{Deed}
 use Rattle.clnp_machine.specs.Step.{effect_of}
-use Rattle.clnp_machine.specs.Steps.{KnowsAddresses, NotesOnly, OnlyHellos}
-use Rattle.clnp_network.specs.World.{World}
+use Rattle.clnp_machine.specs.EveryStep.{KnowsAddresses, NotesOnly, OnlyHellos}
+use Rattle.clnp_network.specs.LabelledNetwork.{LabelledNetwork}
 use Rattle.clnp_network.specs.Run.{Entry}
 use Rattle.clnp_safety.specs.Invariant.{EachRests, SystemIsSound}
 use Rattle.clnp_safety.specs.StepLaws.{StepLaws}
@@ -18,7 +18,7 @@ use Rattle.clnp_safety.proofs.Lines.{quiet_is_honest}
 use Rattle.clnp_safety.proofs.Told.{hellos_note, outputs_note}
 pub use Rattle.clnp_machine.proofs.Hellos.{only_then}
 
-module _ (plan : Plan) (past : List Entry) (w : World) (name : List ℕ) (units : List unit.Unit) (place : ℕ) where
+module _ (plan : Plan) (past : List Entry) (w : LabelledNetwork) (name : List ℕ) (units : List DataUnit) (place : ℕ) where
   -- what it leaves is sound beside the units that are made in it, and what it notes is honest
   pub record EffectIsSound (effect : Effect) : Type 0 where
     pub after : SystemIsSound plan (units ++ effect.units) place effect.after

@@ -14,9 +14,9 @@ use Rattle.clnp_machine.specs.Unit.{Maker, DeclaredAt, Packet}
 use Rattle.clnp_machine.specs.Content.{Content, Labelled, Esis, Unlabelled, esis_value_in, is_accepted, packet_from_outside, value_in}
 use Rattle.clnp_machine.specs.System.{SystemState, Input, FrameComes, Output, Transmits, SendsEsis, Notes, Effect}
 use Rattle.clnp_machine.specs.Step.{step}
-use Rattle.clnp_machine.specs.Steps.{GoesOnOf}
+use Rattle.clnp_machine.specs.EveryStep.{GoesOnOf}
 use Rattle.clnp_machine.specs.Ways.{IsFirstOrGoesOn}
-use Rattle.clnp_network.specs.World.{World, Copy, copy_from, copy_from_outside, first_world, put_out, sends_frame, takes_effect, with_effect}
+use Rattle.clnp_network.specs.LabelledNetwork.{LabelledNetwork, Copy, copy_from, copy_from_outside, first_world, put_out, sends_frame, takes_effect, with_effect}
 use Rattle.clnp_network.specs.Run.{world_after}
 use Rattle.clnp_network.specs.Safe.{HasItsHops, HopsCountCopies, WentOn}
 use Rattle.clnp_safety.specs.StepLaws.{StepLaws}
@@ -51,7 +51,7 @@ all_later copies more some h = AllByRecursion-implies (Hops copies) (Hops (copie
 
 -- What a step sends.
 
-on_hops : (w : World) (s : SystemState) (port : ℕ) (input : Input) (p : Packet) → ComesStanding w input → GoesOnOf s port input p → WentOn w.copies p
+on_hops : (w : LabelledNetwork) (s : SystemState) (port : ℕ) (input : Input) (p : Packet) → ComesStanding w input → GoesOnOf s port input p → WentOn w.copies p
 on_hops w s port (FrameComes at sender to_group (Labelled came following)) p stands on = record {
   came = came;
   following = following;
@@ -64,7 +64,7 @@ on_hops w s port (FrameComes at sender to_group (Labelled came following)) p sta
 on_hops w s port _ p stands on = absurd on
 
 module _ (base : List Copy) where
-  abbrev Has : World → Type 0
+  abbrev Has : LabelledNetwork → Type 0
   Has v = AllByRecursion (Hops base) v.copies
 
   copy_hops : (found : Option PortConfig) (target : Target) (maker : Maker) (birth : ℕ) (content : Content) → HasItsHops base content
@@ -72,7 +72,7 @@ module _ (base : List Copy) where
   copy_hops None target maker birth content h = tt
   copy_hops (Some port) target maker birth content h = (h, tt)
 
-  frame_hops : (system : SystemState) (v : World) (port : ℕ) (target : Target) (maker : Maker) (birth : ℕ) (content : Content) → HasItsHops base content → Has v
+  frame_hops : (system : SystemState) (v : LabelledNetwork) (port : ℕ) (target : Target) (maker : Maker) (birth : ℕ) (content : Content) → HasItsHops base content → Has v
       → Keeps Has AnyLine (sends_frame system v port target maker birth content)
   frame_hops system v port target maker birth content h k = record {
     world = AllByRecursion-append (Hops base) v.copies (copy_from (slice_get system.attached.ports port) target maker birth content) k
@@ -80,8 +80,8 @@ module _ (base : List Copy) where
     lines = (tt, tt);
   }
 
-output_hops : (w : World) (s system : SystemState) (input : Input) → ComesStanding w input → (output : Output) → IsFirstOrGoesOn s input output
-    → (v : World) → Has w.copies v → Keeps (Has w.copies) AnyLine (put_out system v output)
+output_hops : (w : LabelledNetwork) (s system : SystemState) (input : Input) → ComesStanding w input → (output : Output) → IsFirstOrGoesOn s input output
+    → (v : LabelledNetwork) → Has w.copies v → Keeps (Has w.copies) AnyLine (put_out system v output)
 output_hops w s system input stands (Notes note) h v k = record { world = k; lines = (tt, tt) }
 output_hops w s system input stands (Transmits port target packet) h v k =
     frame_hops w.copies system v port target packet.unit.maker packet.unit.made (Labelled packet [])
@@ -89,14 +89,14 @@ output_hops w s system input stands (Transmits port target packet) h v k =
 output_hops w s system input stands (SendsEsis port target value) h v k =
     frame_hops w.copies system v port target (DeclaredAt system.place) system.moment (Esis value []) tt k
 
-step_hops : StepLaws → (w : World) (place : ℕ) (s : SystemState) (input : Input) → slice_get w.systems place ≡ Some s → ComesStanding w input
+step_hops : StepLaws → (w : LabelledNetwork) (place : ℕ) (s : SystemState) (input : Input) → slice_get w.systems place ≡ Some s → ComesStanding w input
     → IsOfNow w s input → HopsCountCopies w → Keeps HopsCountCopies AnyLine (takes_effect w place (step s input))
 step_hops laws w place s input there stands at k =
     let effect : Effect = step s input in
-    let later : World = (takes_effect w place effect).world in
+    let later : LabelledNetwork = (takes_effect w place effect).world in
     let more = effect_copies w place effect in
     let done = keeps-put_all_out (Has w.copies) AnyLine effect.after effect.outputs
-    (AllByRecursion-implies (IsFirstOrGoesOn s input) (λ output. (v : World) → Has w.copies v → Keeps (Has w.copies) AnyLine (put_out effect.after v output))
+    (AllByRecursion-implies (IsFirstOrGoesOn s input) (λ output. (v : LabelledNetwork) → Has w.copies v → Keeps (Has w.copies) AnyLine (put_out effect.after v output))
     (output_hops w s effect.after input stands) effect.outputs (laws.steps.hops s input))
     (with_effect w place effect) k in
     record {
@@ -114,7 +114,7 @@ content_hops copies number moment octets true unrefused = inl refl
 content_hops copies number moment octets false true = tt
 content_hops copies number moment octets false false = tt
 
-outside_hops : (w : World) (subnet : ℕ) (sender : List ℕ) (target : Target) (octets : List ℕ) → AnyFrame sender octets → HopsCountCopies w
+outside_hops : (w : LabelledNetwork) (subnet : ℕ) (sender : List ℕ) (target : Target) (octets : List ℕ) → AnyFrame sender octets → HopsCountCopies w
     → HopsCountCopies (with_outside w subnet sender target octets)
 outside_hops w subnet sender target octets any k =
     let new : Copy = copy_from_outside (length w.copies + 1) w.clock subnet sender target octets in

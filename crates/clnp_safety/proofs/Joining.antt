@@ -11,18 +11,17 @@ use Rattle.clnp_machine.specs.Reassembly.Arrival.{Arrival, data_len, has, is_cov
 use Rattle.clnp_machine.specs.Reassembly.Buffer.{Buffer, data_of, is_whole, octet_by}
 use Rattle.clnp_machine.proofs.ClnpBase.Ranges.{each_place}
 use Rattle.clnp_machine.proofs.ClnpBase.Found.{find_any}
-use Rattle.clnp_machine.specs.Unit as unit
-use Rattle.clnp_machine.specs.Unit.{Packet, more_follows, value_of, value_with}
+use Rattle.clnp_machine.specs.Unit.{DataUnit, Packet, more_follows, value_of, value_with}
 use Rattle.clnp_machine.specs.Local.{header_size, is_all, octet_of}
 use Rattle.clnp_safety.specs.Invariant.{IsOfUnit}
-use Rattle.clnp_machine.specs.Steps.{IsRangeOf}
+use Rattle.clnp_machine.specs.EveryStep.{IsRangeOf}
 use Rattle.clnp_safety.specs.StepLaws.{StepLaws}
 
 -- the octet at a place of a unit's data
-abbrev unit_octet : ℕ → unit.Unit → ℕ
+abbrev unit_octet : ℕ → DataUnit → ℕ
 unit_octet place u = slice_index u.octets (place - u.first_position)
 
-module _ (units : List unit.Unit) (u : unit.Unit) (first : u.first_position ≡ 0) where
+module _ (units : List DataUnit) (u : DataUnit) (first : u.first_position ≡ 0) where
   octet_of_unit : (kept : List (Arrival Packet)) (place : ℕ) → AllByRecursion (IsOfUnit units u) kept → is_covered kept place ≡ true
       → octet_by octet_of place (earliest kept place) ≡ get_or u.octets place 0
   octet_of_unit kept place all covered =
@@ -43,7 +42,7 @@ module _ (units : List unit.Unit) (u : unit.Unit) (first : u.first_position ≡ 
       get_or-map-range_with_len read 0 (data_len buffer.shape) place place 0 low (omega arith)
       ∙ octet_of_unit buffer.kept place all (each_place (is_covered buffer.kept) (data_len buffer.shape) whole place low))
 
-module _ (laws : StepLaws) (units : List unit.Unit) (p : Packet) (sound : IsRangeOf units p) (first : p.unit.first_position ≡ 0)
+module _ (laws : StepLaws) (units : List DataUnit) (p : Packet) (sound : IsRangeOf units p) (first : p.unit.first_position ≡ 0)
     (total : p.unit.total ≡ header_size p.unit + length p.unit.octets) where
   body_of_all : p.offset ≡ 0 → length p.unit.octets ≤ p.length → (value_of p).body ≡ p.unit.octets
   body_of_all start most =

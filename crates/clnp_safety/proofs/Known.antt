@@ -15,22 +15,21 @@ use Rattle.clnp_machine.specs.ClnpPlan.declared.note.Note.TheVariants.{Alien, Re
 use Rattle.clnp_machine.specs.Reassembly.Arrival.{Arrival}
 use Rattle.clnp_machine.specs.Reassembly.Buffer as buffer
 use Rattle.clnp_machine.specs.Reassembly.Buffer.{Answer, Buffer}
-use Rattle.clnp_machine.specs.EsisTables.declared.fact.Place.{Place}
-use Rattle.clnp_machine.specs.Unit as unit
-use Rattle.clnp_machine.specs.Unit.{Packet, value_of}
+use Rattle.clnp_machine.specs.EsisTables.declared.fact.Neighbour.{Neighbour}
+use Rattle.clnp_machine.specs.Unit.{DataUnit, Packet, value_of}
 use Rattle.clnp_machine.specs.Content.{Content, Labelled, Esis, Unlabelled, frame_of}
 use Rattle.clnp_machine.specs.System.{SystemState, Input, AsksToSend, AsksForEcho, FrameComes, MomentComes, IsRestarted, IsCongested, IsChanged, Transmits, Effect, table_limits, then_does}
-use Rattle.clnp_machine.specs.Local as local
+use Rattle.clnp_machine.specs.Local as locally
 use Rattle.clnp_machine.specs.Local.{Action, Deed, data_in, discard, echo_ask, hand_up, is_all, is_answer, make, offer, offered, receive, refusal, reports_from, takes_in, takes_reply, tick, unit_of, unless_refused}
 use Rattle.clnp_machine.specs.Esis.{esis_comes, forgets, says_hello}
 use Rattle.clnp_machine.specs.Step.{content_comes, effect_of, hop_by, options_behind, packet_comes, redirects, responds, step, transmissions}
-use Rattle.clnp_machine.specs.Steps.{NotesOnly, OnlyHellos}
+use Rattle.clnp_machine.specs.EveryStep.{NotesOnly, OnlyHellos}
 use Rattle.clnp_machine.specs.Told.{IsRefusal, NoteIsQuiet, SpellsPdus, TellsOnly}
 use Rattle.clnp_machine.proofs.Hellos.{only_then}
 use Rattle.clnp_machine.proofs.Passing.{packet_does, redirects_are}
 use Rattle.clnp_network.specs.Scenario.Scenario.{IsClosed, IsFit, Plan}
 use Rattle.clnp_network.specs.Scenario.declared.event.Move.{Move}
-use Rattle.clnp_network.specs.World.{first_world}
+use Rattle.clnp_network.specs.LabelledNetwork.{first_world}
 use Rattle.clnp_network.specs.Run.{Entry, entries_of}
 use Rattle.clnp_network.specs.Safe.{NoneIsAlien}
 use Rattle.clnp_safety.specs.StepLaws.{StepLaws}
@@ -48,8 +47,8 @@ quiet_is_known Alien quiet = quiet
 quiet_is_known _ quiet = tt
 
 told_known : (action : Action) → TellsOnly NoteIsQuiet action → TellsOnly IsKnown action
-told_known (local.Tells told) quiet = quiet_is_known told quiet
-told_known (local.Sends u) quiet = tt
+told_known (locally.Tells told) quiet = quiet_is_known told quiet
+told_known (locally.Sends u) quiet = tt
 
 -- What a system does for its own addresses.
 
@@ -69,16 +68,16 @@ discard_tells : (s : SystemState) (frame : Content) (reason place : ℕ) → Tel
 discard_tells s frame reason place = (tt, reports_tell s (frame_of frame) reason place (slice_get s.configuration.addresses 0))
 
 module _ (laws : StepLaws) where
-  unless_tells : (s : SystemState) (u : unit.Unit) (refused : Option Note) → IsRefusal refused → Tells (unless_refused refused s u)
+  unless_tells : (s : SystemState) (u : DataUnit) (refused : Option Note) → IsRefusal refused → Tells (unless_refused refused s u)
   unless_tells s u None refuses = (tt, (tt, tt))
   unless_tells s u (Some (Refused why value)) refuses = (tt, tt)
   unless_tells s u (Some _) refuses = absurd refuses
 
   make_tells : (s : SystemState) (kind : Kind) (from to octets : List ℕ) (ask : Ask) → Tells (make s kind from to octets ask)
   make_tells s kind from to octets ask =
-      let u : unit.Unit = unit_of s kind from to octets ask in unless_tells s u (refusal s u) (laws.deeds.refused s u)
+      let u : DataUnit = unit_of s kind from to octets ask in unless_tells s u (refusal s u) (laws.deeds.refused s u)
 
-  reply_tells : (s : SystemState) (source destination octets : List ℕ) (found : Option unit.Unit) → Tells (takes_reply s source destination octets found)
+  reply_tells : (s : SystemState) (source destination octets : List ℕ) (found : Option DataUnit) → Tells (takes_reply s source destination octets found)
   reply_tells s source destination octets None = (tt, tt)
   reply_tells s source destination octets (Some request) = (tt, tt)
 
@@ -126,7 +125,7 @@ module _ (laws : StepLaws) where
       AllByRecursion-append (NotesOnly IsKnown) effect.outputs (next effect.after).outputs first
       (hellos_note IsKnown quiet_is_known (next effect.after).outputs only.outputs)
 
-  packet_known : (s : SystemState) (came : Place) (p : Packet) (following : List ℕ) → NoteKnown (packet_comes s came p following)
+  packet_known : (s : SystemState) (came : Neighbour) (p : Packet) (following : List ℕ) → NoteKnown (packet_comes s came p following)
   packet_known s came p following =
       packet_does NoteKnown s came p following
       (λ reason of_none. by_deed (discard s (Labelled p following) reason 0) (discard_tells s (Labelled p following) reason 0))
@@ -142,11 +141,11 @@ module _ (laws : StepLaws) where
   content_known : (s : SystemState) (port : ℕ) (sender : List ℕ) (to_group : Bool) (content : Content)
       → SpellsPdus (FrameComes port sender to_group content) → NoteKnown (content_comes s (record { port = port; snpa = sender }) to_group content)
   content_known s port sender to_group (Labelled p following) spells =
-      let from : Place = record { port = port; snpa = sender } in
+      let from : Neighbour = record { port = port; snpa = sender } in
       let comes = packet_comes s from p following in
       then_known comes (λ t. responds t from to_group p) (packet_known s from p following) (laws.hellos.answers comes.after from to_group p)
   content_known s port sender to_group (Esis value following) spells =
-      let from : Place = record { port = port; snpa = sender } in
+      let from : Neighbour = record { port = port; snpa = sender } in
       hellos_note IsKnown quiet_is_known (esis_comes s from value).outputs (laws.hellos.comes s from value).outputs
   content_known s port sender to_group (Unlabelled octets) spells = absurd spells
 

@@ -5,11 +5,11 @@ use Rattle.clnp_machine.specs.ClnpPlan.Journal.{Line, Noted}
 use Rattle.clnp_machine.specs.ClnpPlan.declared.note.Note.{Note}
 use Rattle.clnp_machine.specs.ClnpPlan.declared.note.Note.TheVariants.{Refused, Got, Report, Echoed, Interference, Restart}
 use Rattle.clnp_network.specs.Scenario.Scenario.{Plan}
-use Rattle.clnp_network.specs.World.{World}
+use Rattle.clnp_network.specs.LabelledNetwork.{LabelledNetwork}
 use Rattle.clnp_network.specs.Run.{Entry}
 use Rattle.clnp_network.specs.Safe.{HandsUp, IsFounded, NoRefusal, NoInterference, SaysNoRestart, WasSent}
 use Rattle.std.specs.List.{AllByRecursion}
-use Rattle.clnp_machine.specs.Steps.{IsNoRestart}
+use Rattle.clnp_machine.specs.EveryStep.{IsNoRestart}
 use Rattle.clnp_machine.specs.Told.{NoteIsQuiet}
 use Rattle.clnp_safety.proofs.Steps.{ChangingIsFine, GivingIsFine}
 use Rattle.clnp_safety.proofs.Honest.{NoteIsHonest}
@@ -57,7 +57,7 @@ pub sent_alike : (plan : Plan) (past : List Entry) (source destination handed fr
 sent_alike plan past source destination handed from to octets a b c h =
     subst (λ x. WasSent plan past from to x) c (subst (λ x. WasSent plan past from x handed) b (subst (λ x. WasSent plan past x destination handed) a h))
 
-module _ (plan : Plan) (past : List Entry) (w : World) where
+module _ (plan : Plan) (past : List Entry) (w : LabelledNetwork) where
   -- each note of the lines is honest
   abbrev pub LinesAreSound : List Line → Type 0
   LinesAreSound lines = AllByRecursion (LineIs (NoteIsHonest plan past w)) lines

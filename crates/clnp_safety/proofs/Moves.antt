@@ -8,10 +8,10 @@ use Rattle.clnp_network.specs.Scenario.Scenario.{Plan}
 use Rattle.clnp_network.specs.Scenario.Standing.{AreTogether}
 use Rattle.clnp_network.specs.Scenario.declared.event.Move.{Move}
 use Rattle.clnp_machine.specs.ClnpPlan.Configuration.{IsWithin}
-use Rattle.clnp_machine.specs.Unit as unit
+use Rattle.clnp_machine.specs.Unit.{DataUnit}
 use Rattle.clnp_machine.specs.System.{SystemState}
-use Rattle.clnp_machine.specs.Steps.{IsNoRestart}
-use Rattle.clnp_network.specs.World.{World, Step, nothing}
+use Rattle.clnp_machine.specs.EveryStep.{IsNoRestart}
+use Rattle.clnp_network.specs.LabelledNetwork.{LabelledNetwork, Step, nothing}
 use Rattle.clnp_network.specs.Run.{Entry}
 use Rattle.clnp_network.specs.Clocks.{clocks_of}
 use Rattle.clnp_network.specs.Safe.{SaysNoRestart}
@@ -24,11 +24,11 @@ use Rattle.clnp_safety.proofs.Effects.{AnySystem, IsSoundWith, StandsWith}
 use Rattle.clnp_safety.proofs.Honest.{NoteIsHonest, NoteIsSteady}
 
 -- each system is sound, and so are units and copies, since a world
-abbrev pub IsSoundSince : Plan → List Entry → World → World → Type 0
+abbrev pub IsSoundSince : Plan → List Entry → LabelledNetwork → LabelledNetwork → Type 0
 IsSoundSince plan past base = IsSoundWith plan past base AnySystem
 
 -- a sound world is so since itself, and what holds of its systems does so besides
-pub sound_since_with : (plan : Plan) (past : List Entry) (w : World) (X : (place : ℕ) → SystemState → Type 0) → WorldIsSound plan past w
+pub sound_since_with : (plan : Plan) (past : List Entry) (w : LabelledNetwork) (X : (place : ℕ) → SystemState → Type 0) → WorldIsSound plan past w
     → ((place : ℕ) (s : SystemState) → slice_get w.systems place ≡ Some s → X place s) → IsSoundWith plan past w X w
 sound_since_with plan past w X h also = record {
   made = h.made;
@@ -42,11 +42,11 @@ sound_since_with plan past w X h also = record {
   };
 }
 
-pub sound_since_itself : (plan : Plan) (past : List Entry) (w : World) → WorldIsSound plan past w → IsSoundSince plan past w w
+pub sound_since_itself : (plan : Plan) (past : List Entry) (w : LabelledNetwork) → WorldIsSound plan past w → IsSoundSince plan past w w
 sound_since_itself plan past w h = sound_since_with plan past w AnySystem h (λ place s there. tt)
 
 -- what holds besides is forgotten
-pub sound_since : (plan : Plan) (past : List Entry) (base w : World) (X : (place : ℕ) → SystemState → Type 0) → IsSoundWith plan past base X w
+pub sound_since : (plan : Plan) (past : List Entry) (base w : LabelledNetwork) (X : (place : ℕ) → SystemState → Type 0) → IsSoundWith plan past base X w
     → IsSoundSince plan past base w
 sound_since plan past base w X k = record {
   made = k.made;
@@ -61,22 +61,22 @@ sound_since plan past base w X k = record {
 }
 
 -- What holds of a sound world but for how far apart its clocks stand.
-pub record IsSoundButClocks (plan : Plan) (past : List Entry) (w : World) : Type 0 where
+pub record IsSoundButClocks (plan : Plan) (past : List Entry) (w : LabelledNetwork) : Type 0 where
   pub made : UnitsAreSound plan past w.units
   pub copies : AllByRecursion (CopyIsSound w.units) w.copies
   pub systems : SystemsAreSound plan past w.units w.systems
   pub mtus : AllByRecursion (IsWithin 512 65535) w.mtus
 
-pub with_clocks : (plan : Plan) (past : List Entry) (w : World) → IsSoundButClocks plan past w → AreTogether plan.limits.skew (clocks_of w) → WorldIsSound plan past w
+pub with_clocks : (plan : Plan) (past : List Entry) (w : LabelledNetwork) → IsSoundButClocks plan past w → AreTogether plan.limits.skew (clocks_of w) → WorldIsSound plan past w
 with_clocks plan past w h together = record { made = h.made; copies = h.copies; systems = h.systems; together = together; mtus = h.mtus }
 
 -- the world after the move is sound, but for its clocks, beside the past with the move's entry, and its lines say only what is so
-pub record MoveIsSound (plan : Plan) (past : List Entry) (move : Move) (w : World) (taken : Step) : Type 0 where
+pub record MoveIsSound (plan : Plan) (past : List Entry) (move : Move) (w : LabelledNetwork) (taken : Step) : Type 0 where
   pub world : IsSoundButClocks plan (past ++ record { move = move; lines = taken.lines } ∷ []) taken.world
   pub lines : AllByRecursion (LineIs (NoteIsHonest plan past w)) taken.lines
 
 -- what stands beside sound units is a sound world, but for its clocks
-pub stands_soundly : (plan : Plan) (past : List Entry) (units : List unit.Unit) (w : World) → UnitsAreSound plan past units
+pub stands_soundly : (plan : Plan) (past : List Entry) (units : List DataUnit) (w : LabelledNetwork) → UnitsAreSound plan past units
     → Stands units (length plan.systems) (StandsWith plan past units AnySystem units) w → IsSoundButClocks plan past w
 stands_soundly plan past units w made h =
     let same = sym h.made in
@@ -89,14 +89,14 @@ stands_soundly plan past units w made h =
     }
 
 -- requests stay pending with an entry that says nothing of a restart
-pub stay_pending : (past : List Entry) (entry : Entry) (units more : List unit.Unit) (place : ℕ) (name : List ℕ) (requests : List unit.Unit)
+pub stay_pending : (past : List Entry) (entry : Entry) (units more : List DataUnit) (place : ℕ) (name : List ℕ) (requests : List DataUnit)
     → AllByRecursion (SaysNoRestart name) entry.lines → AllByRecursion (IsPending past units place name) requests
     → AllByRecursion (IsPending (past ++ entry ∷ []) (units ++ more) place name) requests
 stay_pending past entry units more place name requests none h =
     AllByRecursion-implies (IsPending past units place name) (IsPending (past ++ entry ∷ []) (units ++ more) place name)
     (pending_later past entry units more place name none) requests h
 
-module _ (plan : Plan) (past : List Entry) (move : Move) (base : World) (taken : Step) where
+module _ (plan : Plan) (past : List Entry) (move : Move) (base : LabelledNetwork) (taken : Step) where
   abbrev entry : Entry
   entry = record { move = move; lines = taken.lines }
 
@@ -104,7 +104,7 @@ module _ (plan : Plan) (past : List Entry) (move : Move) (base : World) (taken :
   abbrev pub IsPendingStill : SystemState → Type 0
   IsPendingStill s = (s.pending ≡ []) ⊎ AllByRecursion (SaysNoRestart s.configuration.name) taken.lines
 
-  system_after : (units : List unit.Unit) (more : List unit.Unit) → units ≡ base.units ++ more → (place : ℕ) (s : SystemState)
+  system_after : (units : List DataUnit) (more : List DataUnit) → units ≡ base.units ++ more → (place : ℕ) (s : SystemState)
       → SystemStands plan past base.units units place s → IsPendingStill s → SystemStands plan (past ++ entry ∷ []) units units place s
   system_after units more grown place s h still = record {
     sound = h.sound;
@@ -146,6 +146,6 @@ module _ (plan : Plan) (past : List Entry) (move : Move) (base : World) (taken :
       inr (lines_say_no_restart s.configuration.name taken.lines
       (lines_are (NoteIsSteady plan past base) (λ name. IsNoRestart) (λ name note h. h.no_restart) taken.lines kept.lines)))
 
-pub nothing_is_sound : (plan : Plan) (past : List Entry) (move : Move) (w : World) → WorldIsSound plan past w → MoveIsSound plan past move w (nothing w)
+pub nothing_is_sound : (plan : Plan) (past : List Entry) (move : Move) (w : LabelledNetwork) → WorldIsSound plan past w → MoveIsSound plan past move w (nothing w)
 nothing_is_sound plan past move w h =
     kept_is_sound plan past move w (nothing w) (record { world = sound_since_itself plan past w h; lines = tt })

@@ -29,7 +29,7 @@ use Rattle.clnp_machine.specs.Change.{Change, PortIsAt, PortTakes, RouteIsGone, 
 use Rattle.clnp_machine.specs.System.{SystemState, Input, AsksToSend, AsksForEcho, MomentComes, IsRestarted, IsCongested, IsChanged, Output, Transmits, SendsEsis, Notes, Effect}
 use Rattle.clnp_machine.specs.Ports.{ComesByPort, GoesByPort}
 use Rattle.clnp_machine.specs.Step.{step}
-use Rattle.clnp_network.specs.World.{World, Copy, Numbered, Step, addressees_from, after, asks_role, asks_system, comes, comes_to, copy_from, deliver_at, deliver_to, enters, event_happens, first_port, followed_by, for_nobody, frame_to, give, give_each, give_to, injects_on, is_addressee, is_late, lose_copy, nothing, put_all_out, put_out, sends_frame, settle_copy, takes_effect, goes_on, tick_alone, tick_each, with_effect, writes, tells_of, ports_of, moved, moves_port_to, moves_port_of, moves_port_on, sets_route_as, sets_route_of, removes_route_as, removes_route_of, resizes_port_of, resizes_port, resizes_ports, resizes_at, resizes_each, resizes_on}
+use Rattle.clnp_network.specs.LabelledNetwork.{LabelledNetwork, Copy, Numbered, Step, addressees_from, after, asks_role, asks_system, comes, comes_to, copy_from, deliver_at, deliver_to, enters, event_happens, first_port, followed_by, for_nobody, frame_to, give, give_each, give_to, injects_on, is_addressee, is_late, lose_copy, nothing, put_all_out, put_out, sends_frame, settle_copy, takes_effect, goes_on, tick_alone, tick_each, with_effect, writes, tells_of, ports_of, moved, moves_port_to, moves_port_of, moves_port_on, sets_route_as, sets_route_of, removes_route_as, removes_route_of, resizes_port_of, resizes_port, resizes_ports, resizes_at, resizes_each, resizes_on}
 use Rattle.clnp_safety.specs.Growth.{IsCopyAt, IsFront, TellsItsCopy}
 use Rattle.clnp_safety.specs.StepLaws.{StepLaws}
 use Rattle.clnp_machine.proofs.ClnpBase.Choices.{one_of}
@@ -53,11 +53,11 @@ line_later copies more (Transmitted now name number port target octets) h = reco
 line_later copies more _ h = tt
 
 -- the copies of a world stay after a part of a move, and each line tells of its copy
-record Tells (w : World) (taken : Step) : Type 0 where
+record Tells (w : LabelledNetwork) (taken : Step) : Type 0 where
   front : IsFront w.copies taken.world.copies
   lines : AllByRecursion (TellsItsCopy taken.world.copies) taken.lines
 
-tells_both : (w : World) (first : Step) (next : World → Step) → Tells w first → Tells first.world (next first.world) → Tells w (followed_by first next)
+tells_both : (w : LabelledNetwork) (first : Step) (next : LabelledNetwork → Step) → Tells w first → Tells first.world (next first.world) → Tells w (followed_by first next)
 tells_both w first next h k =
     let later : List Copy = (next first.world).world.copies in
     let more = k.front in
@@ -70,15 +70,15 @@ tells_both w first next h k =
           k.lines;
     }
 
-tells_nothing : (w : World) → Tells w (nothing w)
+tells_nothing : (w : LabelledNetwork) → Tells w (nothing w)
 tells_nothing w = record { front = ([], sym (append-nil w.copies)); lines = tt }
 
-tells_line : (w : World) (line : Line) → TellsItsCopy w.copies line → Tells w (writes w line)
+tells_line : (w : LabelledNetwork) (line : Line) → TellsItsCopy w.copies line → Tells w (writes w line)
 tells_line w line h = record { front = ([], sym (append-nil w.copies)); lines = (h, tt) }
 
 -- What a system gives out.
 
-frame_tells : (system : SystemState) (w : World) (port : ℕ) (target : Target) (maker : Maker) (birth : ℕ) (content : Content)
+frame_tells : (system : SystemState) (w : LabelledNetwork) (port : ℕ) (target : Target) (maker : Maker) (birth : ℕ) (content : Content)
     → port < length system.attached.ports → Tells w (sends_frame system w port target maker birth content)
 frame_tells system w port target maker birth content within =
     let found = slice_get_some system.attached.ports port within in
@@ -94,13 +94,13 @@ frame_tells system w port target maker birth content within =
       );
     }
 
-output_tells : (system : SystemState) (output : Output) → GoesByPort system output → (w : World) → Tells w (put_out system w output)
+output_tells : (system : SystemState) (output : Output) → GoesByPort system output → (w : LabelledNetwork) → Tells w (put_out system w output)
 output_tells system (Notes note) goes w = tells_line w _ tt
 output_tells system (Transmits port target packet) goes w =
     frame_tells system w port target packet.unit.maker packet.unit.made (Labelled packet []) goes
 output_tells system (SendsEsis port target value) goes w = frame_tells system w port target (DeclaredAt system.place) system.moment (Esis value []) goes
 
-outputs_tell : (system : SystemState) (outputs : List Output) → AllByRecursion (GoesByPort system) outputs → (w : World) → Tells w (put_all_out system w outputs)
+outputs_tell : (system : SystemState) (outputs : List Output) → AllByRecursion (GoesByPort system) outputs → (w : LabelledNetwork) → Tells w (put_all_out system w outputs)
 outputs_tell system [] all w = tells_nothing w
 outputs_tell system (output ∷ outputs) all w =
     tells_both w (put_out system w output) (λ v. put_all_out system v outputs) (output_tells system output all.0 w)
@@ -132,7 +132,7 @@ record IsAsBefore (base : List SystemState) (place : ℕ) (s : SystemState) : Ty
   attached : s.attached ≡ before.attached
 
 -- so are the systems of a world
-abbrev AreAsBefore : List SystemState → World → Type 0
+abbrev AreAsBefore : List SystemState → LabelledNetwork → Type 0
 AreAsBefore base w = (place : ℕ) (s : SystemState) → slice_get w.systems place ≡ Some s → IsAsBefore base place s
 
 -- a copy is for the system at a place
@@ -163,7 +163,7 @@ nobody_tells copies now number [] = (tt, tt)
 nobody_tells copies now number (place ∷ places) = tt
 
 module _ (laws : StepLaws) (ports : GoByPorts) where
-  effect_tells : (w : World) (place : ℕ) (s : SystemState) (input : Input) → ComesByPort s input → Tells w (takes_effect w place (step s input))
+  effect_tells : (w : LabelledNetwork) (place : ℕ) (s : SystemState) (input : Input) → ComesByPort s input → Tells w (takes_effect w place (step s input))
   effect_tells w place s input comes =
       let effect : Effect = step s input in
       let told = outputs_tell effect.after effect.outputs
@@ -171,32 +171,32 @@ module _ (laws : StepLaws) (ports : GoByPorts) where
       (ports s input comes)) (with_effect w place effect) in
       record { front = told.front; lines = told.lines }
 
-  comes_to_tells : (w : World) (place : ℕ) (input : Input) → ((s : SystemState) → ComesByPort s input) → (found : Option SystemState) → Tells w (comes_to w place input found)
+  comes_to_tells : (w : LabelledNetwork) (place : ℕ) (input : Input) → ((s : SystemState) → ComesByPort s input) → (found : Option SystemState) → Tells w (comes_to w place input found)
   comes_to_tells w place input any None = tells_nothing w
   comes_to_tells w place input any (Some s) = effect_tells w place s input (any s)
 
-  comes_tells : (w : World) (place : ℕ) (input : Input) → ((s : SystemState) → ComesByPort s input) → Tells w (comes w place input)
+  comes_tells : (w : LabelledNetwork) (place : ℕ) (input : Input) → ((s : SystemState) → ComesByPort s input) → Tells w (comes w place input)
   comes_tells w place input any = comes_to_tells w place input any (slice_get w.systems place)
 
-  role_tells : (role : Role) (w : World) (place : ℕ) (input : Input) → ((s : SystemState) → ComesByPort s input) → Tells w (asks_role role w place input)
+  role_tells : (role : Role) (w : LabelledNetwork) (place : ℕ) (input : Input) → ((s : SystemState) → ComesByPort s input) → Tells w (asks_role role w place input)
   role_tells Host w place input any = comes_tells w place input any
   role_tells Router w place input any = tells_nothing w
 
-  asks_tells : (w : World) (place : ℕ) (input : Input) → ((s : SystemState) → ComesByPort s input) → (found : Option SystemState) → Tells w (asks_system w place input found)
+  asks_tells : (w : LabelledNetwork) (place : ℕ) (input : Input) → ((s : SystemState) → ComesByPort s input) → (found : Option SystemState) → Tells w (asks_system w place input found)
   asks_tells w place input any None = tells_nothing w
   asks_tells w place input any (Some system) = role_tells system.configuration.role w place input any
 
-  goes_on_tells : (w : World) (place : ℕ) (found : Option SystemState) → Tells w (goes_on w place found)
+  goes_on_tells : (w : LabelledNetwork) (place : ℕ) (found : Option SystemState) → Tells w (goes_on w place found)
   goes_on_tells w place None = tells_nothing w
   goes_on_tells w place (Some s) = comes_tells w place (MomentComes (s.moment + 1)) (λ t. tt)
 
-  tick_each_tells : (places : List ℕ) (w : World) → Tells w (tick_each w places)
+  tick_each_tells : (places : List ℕ) (w : LabelledNetwork) → Tells w (tick_each w places)
   tick_each_tells [] w = tells_nothing w
   tick_each_tells (place ∷ places) w =
       let next = goes_on w place (slice_get w.systems place) in
       tells_both w next (λ v. tick_each v places) (goes_on_tells w place (slice_get w.systems place)) (tick_each_tells places next.world)
 
-  tick_alone_tells : (w : World) (place : ℕ) (found : Option SystemState) → Tells w (tick_alone w place found)
+  tick_alone_tells : (w : LabelledNetwork) (place : ℕ) (found : Option SystemState) → Tells w (tick_alone w place found)
   tick_alone_tells w place None = tells_nothing w
   tick_alone_tells w place (Some s) =
       let told = goes_on_tells (record w { clock = max w.clock (s.moment + 1) }) place (Some s) in
@@ -205,7 +205,7 @@ module _ (laws : StepLaws) (ports : GoByPorts) where
   -- Copies that are given.
 
   module _ (limits : Limits) (given : Numbered) where
-    give_to_tells : (w : World) (place : ℕ) (found : Option SystemState) → ((s : SystemState) → found ≡ Some s → is_addressee given.copy s ≡ true)
+    give_to_tells : (w : LabelledNetwork) (place : ℕ) (found : Option SystemState) → ((s : SystemState) → found ≡ Some s → is_addressee given.copy s ≡ true)
         → Tells w (give_to limits given w place found)
     give_to_tells w place None for = tells_nothing w
     give_to_tells w place (Some s) for =
@@ -219,7 +219,7 @@ module _ (laws : StepLaws) (ports : GoByPorts) where
         ]
 
     module _ (base : List SystemState) where
-      given_as_before : (w : World) (place : ℕ) (found : Option SystemState) → slice_get w.systems place ≡ found → AreAsBefore base w
+      given_as_before : (w : LabelledNetwork) (place : ℕ) (found : Option SystemState) → slice_get w.systems place ≡ found → AreAsBefore base w
           → AreAsBefore base (give_to limits given w place found).world
       given_as_before w place None e k = k
       given_as_before w place (Some s) e k =
@@ -241,7 +241,7 @@ module _ (laws : StepLaws) (ports : GoByPorts) where
                 })))
           ]
 
-      give_each_tells : (places : List ℕ) → AllByRecursion (IsFor base given.copy) places → (w : World) → AreAsBefore base w → Tells w (give_each limits given w places)
+      give_each_tells : (places : List ℕ) → AllByRecursion (IsFor base given.copy) places → (w : LabelledNetwork) → AreAsBefore base w → Tells w (give_each limits given w places)
       give_each_tells [] for w k = tells_nothing w
       give_each_tells (place ∷ places) for w k =
           tells_both w (give limits given w place) (λ v. give_each limits given v places)
@@ -249,14 +249,14 @@ module _ (laws : StepLaws) (ports : GoByPorts) where
           (λ s e. still_for base given.copy place s (k place s e) for.0))
           (give_each_tells places for.1 (give limits given w place).world (given_as_before w place (slice_get w.systems place) refl k))
 
-  settle_tells : (limits : Limits) (w : World) (found : Option Copy) → Tells w (settle_copy limits w found)
+  settle_tells : (limits : Limits) (w : LabelledNetwork) (found : Option Copy) → Tells w (settle_copy limits w found)
   settle_tells limits w None = tells_nothing w
   settle_tells limits w (Some copy) =
       let given : Numbered = record { number = w.cursor + 1; copy = copy } in
       let told = give_each_tells limits given w.systems (addressees_from 0 copy w.systems)
       (each_is_for w.systems copy 0 w.systems (λ k. ap (slice_get w.systems) (let same : k ≡ 0 + k = omega arith in same)))
       (record w { cursor = w.cursor + 1 }) (λ place s e. record { before = s; there = e; configuration = refl; attached = refl }) in
-      let next : World = record w { cursor = w.cursor + 1 } in
+      let next : LabelledNetwork = record w { cursor = w.cursor + 1 } in
       record {
         front = told.front;
         lines = AllByRecursion-append (TellsItsCopy (give_each limits given next (addressees_from 0 copy w.systems)).world.copies)
@@ -266,11 +266,11 @@ module _ (laws : StepLaws) (ports : GoByPorts) where
             told.lines;
       }
 
-  lose_tells : (w : World) (found : Option Copy) → Tells w (lose_copy w found)
+  lose_tells : (w : LabelledNetwork) (found : Option Copy) → Tells w (lose_copy w found)
   lose_tells w None = tells_nothing w
   lose_tells w (Some copy) = record { front = ([], sym (append-nil w.copies)); lines = (tt, tt) }
 
-  deliver_to_tells : (limits : Limits) (w : World) (number place : ℕ) (found : Option Copy) (system : SystemState) → slice_get w.systems place ≡ Some system
+  deliver_to_tells : (limits : Limits) (w : LabelledNetwork) (number place : ℕ) (found : Option Copy) (system : SystemState) → slice_get w.systems place ≡ Some system
       → Tells w (deliver_to limits w number place found system)
   deliver_to_tells limits w number place None system e = tells_line w (Void system.moment system.configuration.name number) tt
   deliver_to_tells limits w number place (Some copy) system e =
@@ -282,95 +282,95 @@ module _ (laws : StepLaws) (ports : GoByPorts) where
         | inr isnt ↦ rw isnt (tells_line w (Void system.moment system.configuration.name number) tt)
       ]
 
-  deliver_tells : (limits : Limits) (w : World) (number place : ℕ) (found : Option SystemState) → slice_get w.systems place ≡ found
+  deliver_tells : (limits : Limits) (w : LabelledNetwork) (number place : ℕ) (found : Option SystemState) → slice_get w.systems place ≡ found
       → Tells w (deliver_at limits w number place found)
   deliver_tells limits w number place None e = tells_nothing w
   deliver_tells limits w number place (Some system) e = deliver_to_tells limits w number place (slice_get w.copies (number - 1)) system e
 
-  injects_tells : (w : World) (subnet : ℕ) (found : Option Subnetwork) (sender : List ℕ) (target : Target) (octets : List ℕ)
+  injects_tells : (w : LabelledNetwork) (subnet : ℕ) (found : Option Subnetwork) (sender : List ℕ) (target : Target) (octets : List ℕ)
       → Tells w (injects_on w subnet found sender target octets)
   injects_tells w subnet None sender target octets = tells_nothing w
   injects_tells w subnet (Some declared) sender target octets = record { front = (_, refl); lines = (tt, tt) }
 
   -- Changes.
 
-  told_tells : (w : World) (place : ℕ) (system : SystemState) (change : Change) (told : Note)
+  told_tells : (w : LabelledNetwork) (place : ℕ) (system : SystemState) (change : Change) (told : Note)
       → Tells w (followed_by (comes w place (IsChanged change)) (tells_of system told))
   told_tells w place system change told =
       let changed = comes w place (IsChanged change) in
       tells_both w changed (tells_of system told) (comes_tells w place (IsChanged change) (λ s. tt))
       (tells_line changed.world (Noted system.moment system.configuration.name told) tt)
 
-  port_to_tells : (w : World) (place number subnet : ℕ) (snpa : List ℕ) (mtu : ℕ) (declared : Subnetwork) (system : SystemState) (found : Option PortConfig)
+  port_to_tells : (w : LabelledNetwork) (place number subnet : ℕ) (snpa : List ℕ) (mtu : ℕ) (declared : Subnetwork) (system : SystemState) (found : Option PortConfig)
       → Tells w (moves_port_to w place number subnet snpa mtu declared system found)
   port_to_tells w place number subnet snpa mtu declared system None = tells_nothing w
   port_to_tells w place number subnet snpa mtu declared system (Some port) =
       told_tells w place system (PortIsAt number (moved port subnet mtu snpa)) (note.Port number declared.name snpa)
 
-  port_of_tells : (w : World) (place number subnet : ℕ) (snpa : List ℕ) (mtu : ℕ) (declared : Subnetwork) (found : Option SystemState)
+  port_of_tells : (w : LabelledNetwork) (place number subnet : ℕ) (snpa : List ℕ) (mtu : ℕ) (declared : Subnetwork) (found : Option SystemState)
       → Tells w (moves_port_of w place number subnet snpa mtu declared found)
   port_of_tells w place number subnet snpa mtu declared None = tells_nothing w
   port_of_tells w place number subnet snpa mtu declared (Some system) =
       port_to_tells w place number subnet snpa mtu declared system (slice_get system.attached.ports number)
 
-  port_tells : (w : World) (place number subnet : ℕ) (snpa : List ℕ) (declared : Option Subnetwork) (mtu : Option ℕ)
+  port_tells : (w : LabelledNetwork) (place number subnet : ℕ) (snpa : List ℕ) (declared : Option Subnetwork) (mtu : Option ℕ)
       → Tells w (moves_port_on w place number subnet snpa declared mtu)
   port_tells w place number subnet snpa None mtu = tells_nothing w
   port_tells w place number subnet snpa (Some declared) None = tells_nothing w
   port_tells w place number subnet snpa (Some declared) (Some mtu) =
       port_of_tells w place number subnet snpa mtu declared (slice_get w.systems place)
 
-  route_as_tells : (role : Role) (w : World) (place : ℕ) (system : SystemState) (route : forwarding.Route) → Tells w (sets_route_as role w place system route)
+  route_as_tells : (role : Role) (w : LabelledNetwork) (place : ℕ) (system : SystemState) (route : forwarding.Route) → Tells w (sets_route_as role w place system route)
   route_as_tells Host w place system route = tells_nothing w
   route_as_tells Router w place system route =
       one_of (Tells w) (nat_lt route.port (length system.attached.ports))
       (followed_by (comes w place (IsChanged (RouteIsSet route))) (tells_of system (note.Route route.prefix))) (nothing w)
       (told_tells w place system (RouteIsSet route) (note.Route route.prefix)) (tells_nothing w)
 
-  route_tells : (w : World) (place : ℕ) (route : forwarding.Route) (found : Option SystemState) → Tells w (sets_route_of w place route found)
+  route_tells : (w : LabelledNetwork) (place : ℕ) (route : forwarding.Route) (found : Option SystemState) → Tells w (sets_route_of w place route found)
   route_tells w place route None = tells_nothing w
   route_tells w place route (Some system) = route_as_tells system.configuration.role w place system route
 
-  unroute_as_tells : (role : Role) (w : World) (place : ℕ) (system : SystemState) (prefix : List ℕ) → Tells w (removes_route_as role w place system prefix)
+  unroute_as_tells : (role : Role) (w : LabelledNetwork) (place : ℕ) (system : SystemState) (prefix : List ℕ) → Tells w (removes_route_as role w place system prefix)
   unroute_as_tells Host w place system prefix = tells_nothing w
   unroute_as_tells Router w place system prefix =
       told_tells w place system (RouteIsGone prefix) (note.Unroute prefix (list_any (has_prefix prefix) system.attached.routes))
 
-  unroute_tells : (w : World) (place : ℕ) (prefix : List ℕ) (found : Option SystemState) → Tells w (removes_route_of w place prefix found)
+  unroute_tells : (w : LabelledNetwork) (place : ℕ) (prefix : List ℕ) (found : Option SystemState) → Tells w (removes_route_of w place prefix found)
   unroute_tells w place prefix None = tells_nothing w
   unroute_tells w place prefix (Some system) = unroute_as_tells system.configuration.role w place system prefix
 
   module _ (subnet mtu : ℕ) where
-    resize_port_tells : (w : World) (place number : ℕ) (found : Option PortConfig) → Tells w (resizes_port_of w place number subnet mtu found)
+    resize_port_tells : (w : LabelledNetwork) (place number : ℕ) (found : Option PortConfig) → Tells w (resizes_port_of w place number subnet mtu found)
     resize_port_tells w place number None = tells_nothing w
     resize_port_tells w place number (Some port) =
         one_of (Tells w) (port.subnet == subnet) (comes w place (IsChanged (PortTakes number mtu))) (nothing w)
         (comes_tells w place (IsChanged (PortTakes number mtu)) (λ s. tt)) (tells_nothing w)
 
-    resize_ports_tell : (place : ℕ) (numbers : List ℕ) (w : World) → Tells w (resizes_ports w place subnet mtu numbers)
+    resize_ports_tell : (place : ℕ) (numbers : List ℕ) (w : LabelledNetwork) → Tells w (resizes_ports w place subnet mtu numbers)
     resize_ports_tell place [] w = tells_nothing w
     resize_ports_tell place (number ∷ numbers) w =
         tells_both w (resizes_port w place number subnet mtu) (λ v. resizes_ports v place subnet mtu numbers)
         (resize_port_tells w place number (slice_get (ports_of (slice_get w.systems place)) number))
         (resize_ports_tell place numbers (resizes_port w place number subnet mtu).world)
 
-    resize_each_tells : (places : List ℕ) (w : World) → Tells w (resizes_each w subnet mtu places)
+    resize_each_tells : (places : List ℕ) (w : LabelledNetwork) → Tells w (resizes_each w subnet mtu places)
     resize_each_tells [] w = tells_nothing w
     resize_each_tells (place ∷ places) w =
         tells_both w (resizes_at w place subnet mtu) (λ v. resizes_each v subnet mtu places)
         (resize_ports_tell place (range_with_len 0 (length (ports_of (slice_get w.systems place)))) w)
         (resize_each_tells places (resizes_at w place subnet mtu).world)
 
-    resize_tells : (w : World) (found : Option Subnetwork) → Tells w (resizes_on w subnet mtu found)
+    resize_tells : (w : LabelledNetwork) (found : Option Subnetwork) → Tells w (resizes_on w subnet mtu found)
     resize_tells w None = tells_nothing w
     resize_tells w (Some declared) =
-        let first : World = record w { mtus = slice_set w.mtus subnet mtu } in
+        let first : LabelledNetwork = record w { mtus = slice_set w.mtus subnet mtu } in
         let each = resizes_each first subnet mtu (range_with_len 0 (length w.systems)) in
         let told = tells_both first each (λ v. writes v (Resized v.clock declared.name mtu)) (resize_each_tells (range_with_len 0 (length w.systems)) first)
         (tells_line each.world (Resized each.world.clock declared.name mtu) tt) in
         record { front = told.front; lines = told.lines }
 
-  event_tells : (subnets : List Subnetwork) (limits : Limits) (w : World) (asked : Option Event) → Tells w (event_happens subnets limits w asked)
+  event_tells : (subnets : List Subnetwork) (limits : Limits) (w : LabelledNetwork) (asked : Option Event) → Tells w (event_happens subnets limits w asked)
   event_tells subnets limits w None = tells_nothing w
   event_tells subnets limits w (Some (Settle count)) = tells_nothing w
   event_tells subnets limits w (Some (Lose count)) = tells_nothing w
@@ -389,7 +389,7 @@ module _ (laws : StepLaws) (ports : GoByPorts) where
   event_tells subnets limits w (Some (Port system number subnet snpa)) =
       port_tells w system number subnet snpa (slice_get subnets subnet) (slice_get w.mtus subnet)
 
-  move_tells : (plan : Plan) (w : World) (move : Move) → Tells w (after plan w move)
+  move_tells : (plan : Plan) (w : LabelledNetwork) (move : Move) → Tells w (after plan w move)
   move_tells plan w (One place) = event_tells plan.subnets plan.limits w (slice_get plan.events place)
   move_tells plan w SettleOne = settle_tells plan.limits w (slice_get w.copies w.cursor)
   move_tells plan w LoseOne = lose_tells w (slice_get w.copies w.cursor)
@@ -398,5 +398,5 @@ module _ (laws : StepLaws) (ports : GoByPorts) where
       record { front = told.front; lines = told.lines }
   move_tells plan w (TickSystem place) = tick_alone_tells w place (slice_get w.systems place)
 
-  pub lines_tell : (plan : Plan) (w : World) (move : Move) → AllByRecursion (TellsItsCopy (after plan w move).world.copies) (after plan w move).lines
+  pub lines_tell : (plan : Plan) (w : LabelledNetwork) (move : Move) → AllByRecursion (TellsItsCopy (after plan w move).world.copies) (after plan w move).lines
   lines_tell plan w move = (move_tells plan w move).lines

@@ -7,7 +7,7 @@ use Rattle.clnp_machine.specs.ClnpPlan.Configuration.{IsAddressed, IsSystem, IsW
 use Rattle.clnp_machine.specs.ClnpPlan.declared.config.Limits.{Limits}
 use Rattle.clnp_network.specs.Scenario.Scenario.{IsFit, Plan, Subnetwork}
 use Rattle.clnp_machine.specs.System.{SystemState, first_state}
-use Rattle.clnp_network.specs.World.{states_from, first_world}
+use Rattle.clnp_network.specs.LabelledNetwork.{states_from, first_world}
 use Rattle.clnp_safety.specs.Invariant.{SystemStands, WorldIsSound}
 use Rattle.clnp_safety.specs.StepLaws.{StepLaws}
 

@@ -7,12 +7,11 @@ use Rattle.clnp_machine.specs.Nsap.declared.target.Target.{Target}
 use Rattle.clnp_machine.specs.ClnpPlan.Configuration.{IsWithin}
 use Rattle.clnp_machine.specs.ClnpPlan.declared.config.PortConfig.{PortConfig}
 use Rattle.clnp_machine.specs.ClnpPlan.declared.note.Note.{Note}
-use Rattle.clnp_machine.specs.Unit as unit
-use Rattle.clnp_machine.specs.Unit.{Maker, DeclaredAt}
+use Rattle.clnp_machine.specs.Unit.{DataUnit, Maker, DeclaredAt}
 use Rattle.clnp_machine.specs.Content.{Content, IsCarried, Labelled, Esis}
 use Rattle.clnp_machine.specs.System.{SystemState, Output, Transmits, SendsEsis, Notes, Effect}
-use Rattle.clnp_machine.specs.Steps.{IsRangeOf, NotesOnly}
-use Rattle.clnp_network.specs.World.{World, copy_from, sends_frame, put_out, with_effect, takes_effect}
+use Rattle.clnp_machine.specs.EveryStep.{IsRangeOf, NotesOnly}
+use Rattle.clnp_network.specs.LabelledNetwork.{LabelledNetwork, copy_from, sends_frame, put_out, with_effect, takes_effect}
 use Rattle.std.specs.List.{AllByRecursion}
 use Rattle.clnp_safety.specs.Invariant.{Carries, CopyIsSound, IsBornWithUnit}
 use Rattle.clnp_safety.specs.Outside.{IsMadeBy}
@@ -23,7 +22,7 @@ use Rattle.clnp_safety.proofs.Honest.{OutputIsSound}
 
 -- these units were made, P holds of the system at each place, the copies are sound, and subnetworks take frames that are
 -- long enough
-pub record Stands (units : List unit.Unit) (count : ℕ) (P : (place : ℕ) → SystemState → Type 0) (w : World) : Type 0 where
+pub record Stands (units : List DataUnit) (count : ℕ) (P : (place : ℕ) → SystemState → Type 0) (w : LabelledNetwork) : Type 0 where
   pub made : w.units ≡ units
   pub copies : AllByRecursion (CopyIsSound units) w.copies
   pub number : length w.systems ≡ count
@@ -34,7 +33,7 @@ pub record Stands (units : List unit.Unit) (count : ℕ) (P : (place : ℕ) → 
 abbrev pub PortsAreAddressed : SystemState → Type 0
 PortsAreAddressed system = AllByRecursion (λ (port : PortConfig). IsAddress port.snpa) system.attached.ports
 
-copy_from_is_sound : (units : List unit.Unit) (found : Option PortConfig) (target : Target) (maker : Maker) (birth : ℕ) (content : Content)
+copy_from_is_sound : (units : List DataUnit) (found : Option PortConfig) (target : Target) (maker : Maker) (birth : ℕ) (content : Content)
     → ((port : PortConfig) → found ≡ Some port → IsAddress port.snpa) → Carries (IsRangeOf units) content → IsCarried content → IsBornWithUnit birth content
     → IsMadeBy maker content → AllByRecursion (CopyIsSound units) (copy_from found target maker birth content)
 copy_from_is_sound units None target maker birth content addressed carries carried born by = tt
@@ -42,7 +41,7 @@ copy_from_is_sound units (Some port) target maker birth content addressed carrie
     (record { sender = addressed port refl; carries = carries; carried = carried; birth = born; maker = by }, tt)
 
 module _ (count : ℕ) (N : List ℕ → Note → Type 0) where
-  frame_stands : (units : List unit.Unit) (P : (place : ℕ) → SystemState → Type 0) (system : SystemState) (v : World) (port : ℕ) (target : Target)
+  frame_stands : (units : List DataUnit) (P : (place : ℕ) → SystemState → Type 0) (system : SystemState) (v : LabelledNetwork) (port : ℕ) (target : Target)
       (maker : Maker) (birth : ℕ) (content : Content) → PortsAreAddressed system → Carries (IsRangeOf units) content → IsCarried content
       → IsBornWithUnit birth content → IsMadeBy maker content
       → Stands units count P v → Keeps (Stands units count P) (LineIs N) (sends_frame system v port target maker birth content)
@@ -60,8 +59,8 @@ module _ (count : ℕ) (N : List ℕ → Note → Type 0) where
     lines = (tt, tt);
   }
 
-  put_out_stands : (units : List unit.Unit) (P : (place : ℕ) → SystemState → Type 0) (system : SystemState) → PortsAreAddressed system
-      → (output : Output) → OutputIsSound (N system.configuration.name) units output → (v : World) → Stands units count P v
+  put_out_stands : (units : List DataUnit) (P : (place : ℕ) → SystemState → Type 0) (system : SystemState) → PortsAreAddressed system
+      → (output : Output) → OutputIsSound (N system.configuration.name) units output → (v : LabelledNetwork) → Stands units count P v
       → Keeps (Stands units count P) (LineIs N) (put_out system v output)
   put_out_stands units P system addressed (Notes note) h v k = record { world = k; lines = (h, tt) }
   put_out_stands units P system addressed (Transmits port target packet) h v k =
@@ -70,14 +69,14 @@ module _ (count : ℕ) (N : List ℕ → Note → Type 0) where
       frame_stands units P system v port target (DeclaredAt system.place) system.moment (Esis value []) addressed refl h tt tt k
 
   -- a system that gives out only what is sound leaves a sound world
-  pub takes_effect_stands : (units : List unit.Unit) (P Q : (place : ℕ) → SystemState → Type 0) (w : World) (place : ℕ) (effect : Effect)
+  pub takes_effect_stands : (units : List DataUnit) (P Q : (place : ℕ) → SystemState → Type 0) (w : LabelledNetwork) (place : ℕ) (effect : Effect)
       → ((other : ℕ) (s : SystemState) → other ≢ place → P other s → Q other s) → Q place effect.after
       → PortsAreAddressed effect.after → AllByRecursion (OutputIsSound (N effect.after.configuration.name) (units ++ effect.units)) effect.outputs
       → Stands units count P w → Keeps (Stands (units ++ effect.units) count Q) (LineIs N) (takes_effect w place effect)
   takes_effect_stands units P Q w place effect others here addressed outputs k =
-      let later : List unit.Unit = units ++ effect.units in
+      let later : List DataUnit = units ++ effect.units in
       keeps-put_all_out (Stands later count Q) (LineIs N) effect.after effect.outputs
-      (AllByRecursion-implies (OutputIsSound (N effect.after.configuration.name) later) (λ output. (v : World) → Stands later count Q v → Keeps (Stands later count Q) (LineIs N) (put_out effect.after v output))
+      (AllByRecursion-implies (OutputIsSound (N effect.after.configuration.name) later) (λ output. (v : LabelledNetwork) → Stands later count Q v → Keeps (Stands later count Q) (LineIs N) (put_out effect.after v output))
       (put_out_stands later Q effect.after addressed) effect.outputs outputs)
       (with_effect w place effect)
       (record {
@@ -89,20 +88,20 @@ module _ (count : ℕ) (N : List ℕ → Note → Type 0) where
       })
 
 -- any world will do
-abbrev AnyWorld : World → Type 0
+abbrev AnyWorld : LabelledNetwork → Type 0
 AnyWorld w = Unit {0}
 
-put_out_notes : (Q : Note → Type 0) (system : SystemState) (output : Output) → NotesOnly Q output → (v : World) → AnyWorld v
+put_out_notes : (Q : Note → Type 0) (system : SystemState) (output : Output) → NotesOnly Q output → (v : LabelledNetwork) → AnyWorld v
     → Keeps AnyWorld (LineIs (λ name. Q)) (put_out system v output)
 put_out_notes Q system (Notes note) h v k = record { world = tt; lines = (h, tt) }
 put_out_notes Q system (Transmits port target packet) h v k = record { world = tt; lines = (tt, tt) }
 put_out_notes Q system (SendsEsis port target value) h v k = record { world = tt; lines = (tt, tt) }
 
 -- a system that notes only what Q holds of writes only such lines
-pub takes_effect_notes : (Q : Note → Type 0) (w : World) (place : ℕ) (effect : Effect) → AllByRecursion (NotesOnly Q) effect.outputs
+pub takes_effect_notes : (Q : Note → Type 0) (w : LabelledNetwork) (place : ℕ) (effect : Effect) → AllByRecursion (NotesOnly Q) effect.outputs
     → AllByRecursion (LineIs (λ name. Q)) (takes_effect w place effect).lines
 takes_effect_notes Q w place effect h =
     (keeps-put_all_out AnyWorld (LineIs (λ name. Q)) effect.after effect.outputs
-    (AllByRecursion-implies (NotesOnly Q) (λ output. (v : World) → AnyWorld v → Keeps AnyWorld (LineIs (λ name. Q)) (put_out effect.after v output))
+    (AllByRecursion-implies (NotesOnly Q) (λ output. (v : LabelledNetwork) → AnyWorld v → Keeps AnyWorld (LineIs (λ name. Q)) (put_out effect.after v output))
     (put_out_notes Q effect.after) effect.outputs h)
     (with_effect w place effect) tt).lines

@@ -12,8 +12,8 @@ use Rattle.clnp_network.specs.Scenario.Scenario.{Plan}
 use Rattle.clnp_network.specs.Scenario.declared.event.Move.{Move}
 use Rattle.clnp_machine.specs.System.{SystemState, Input, Output, Transmits, SendsEsis, Notes, Effect}
 use Rattle.clnp_machine.specs.Step.{step}
-use Rattle.clnp_machine.specs.Steps.{IsForOwn, NotesOnly}
-use Rattle.clnp_network.specs.World.{World, put_out, with_effect, takes_effect, after}
+use Rattle.clnp_machine.specs.EveryStep.{IsForOwn, NotesOnly}
+use Rattle.clnp_network.specs.LabelledNetwork.{LabelledNetwork, put_out, with_effect, takes_effect, after}
 use Rattle.clnp_safety.specs.Owners.{IsByOwner}
 use Rattle.clnp_safety.specs.StepLaws.{StepLaws}
 use Rattle.clnp_safety.proofs.EveryMove.{AnyFrame, AnyInput, EachStepKeeps, IsOfNow, any_events, keeps-move}
@@ -27,7 +27,7 @@ module _ (laws : StepLaws) (systems : List SystemState) where
     same : s.configuration ≡ before.configuration
 
   -- the systems of a world were configured so before
-  abbrev AreConfigured : World → Type 0
+  abbrev AreConfigured : LabelledNetwork → Type 0
   AreConfigured v = (place : ℕ) (s : SystemState) → slice_get v.systems place ≡ Some s → WasConfigured place s
 
   abbrev ByOwner : Line → Type 0
@@ -64,7 +64,7 @@ module _ (laws : StepLaws) (systems : List SystemState) where
 
   put_out_by_owner : (place : ℕ) (s later : SystemState) (output : Output) → WasConfigured place s
       → later.configuration ≡ s.configuration → NotesOnly (IsForOwn s) output
-      → (v : World) → AreConfigured v → Keeps AreConfigured ByOwner (put_out later v output)
+      → (v : LabelledNetwork) → AreConfigured v → Keeps AreConfigured ByOwner (put_out later v output)
   put_out_by_owner place s later (Notes note) was e own v k = record {
     world = k;
     lines = (noted_by_owner place later.moment s later.configuration note was e own, tt);
@@ -72,14 +72,14 @@ module _ (laws : StepLaws) (systems : List SystemState) where
   put_out_by_owner place s later (Transmits port target packet) was e own v k = record { world = k; lines = (tt, tt) }
   put_out_by_owner place s later (SendsEsis port target value) was e own v k = record { world = k; lines = (tt, tt) }
 
-  takes_effect_by_owner : (w : World) (place : ℕ) (s : SystemState) (input : Input) → slice_get w.systems place ≡ Some s
+  takes_effect_by_owner : (w : LabelledNetwork) (place : ℕ) (s : SystemState) (input : Input) → slice_get w.systems place ≡ Some s
       → AnyInput input → IsOfNow w s input → AreConfigured w → Keeps AreConfigured ByOwner (takes_effect w place (step s input))
   takes_effect_by_owner w place s input there any at k =
       let was = k place s there in
       let effect : Effect = step s input in
       let same = (laws.steps.itself s input).configuration in
       keeps-put_all_out AreConfigured ByOwner effect.after effect.outputs
-      (AllByRecursion-implies (NotesOnly (IsForOwn s)) (λ output. (v : World) → AreConfigured v → Keeps AreConfigured ByOwner (put_out effect.after v output))
+      (AllByRecursion-implies (NotesOnly (IsForOwn s)) (λ output. (v : LabelledNetwork) → AreConfigured v → Keeps AreConfigured ByOwner (put_out effect.after v output))
       (λ output own_output. put_out_by_owner place s effect.after output was same own_output) effect.outputs (laws.steps.own s input))
       (with_effect w place effect)
       (set_each WasConfigured WasConfigured w.systems place effect.after k (λ other t apart h. h)
@@ -101,9 +101,9 @@ module _ (laws : StepLaws) (systems : List SystemState) where
     changing = changing;
   }
 
-unchanged : (laws : StepLaws) (w : World) → AreConfigured laws w.systems w
+unchanged : (laws : StepLaws) (w : LabelledNetwork) → AreConfigured laws w.systems w
 unchanged laws w place s there = record { before = s; there = there; same = refl }
 
-pub move_by_owner : StepLaws → (plan : Plan) (w : World) (move : Move) → AllByRecursion (IsByOwner w.systems) (after plan w move).lines
+pub move_by_owner : StepLaws → (plan : Plan) (w : LabelledNetwork) (move : Move) → AllByRecursion (IsByOwner w.systems) (after plan w move).lines
 move_by_owner laws plan w move =
     (keeps-move (λ w. AnyInput) AnyFrame (AreConfigured laws w.systems) (IsByOwner w.systems) (each_by_owner laws w.systems) plan (λ w. any_events plan.events) w move (unchanged laws w)).lines

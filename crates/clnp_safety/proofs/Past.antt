@@ -8,7 +8,7 @@ use Rattle.clnp_machine.specs.PduHeader.declared.kind.Kind.{Kind}
 use Rattle.clnp_machine.specs.PduHeader.declared.kind.Kind.TheVariants.{Dt, Er, Erq, Erp}
 use Rattle.clnp_machine.specs.ClnpPlan.Journal.{Line}
 use Rattle.clnp_network.specs.Scenario.Scenario.{Plan}
-use Rattle.clnp_machine.specs.Unit as unit
+use Rattle.clnp_machine.specs.Unit.{DataUnit}
 use Rattle.clnp_network.specs.Run.{Entry}
 use Rattle.clnp_network.specs.Safe.{IsSend, NoRefusal, RequestedSinceRestart, SaysNoRestart, SaysRequested, WasSent}
 use Rattle.clnp_safety.specs.Invariant.{IsMadeOn, IsPending, UnitIsSound, UnitsAreSound}
@@ -23,14 +23,14 @@ pub sent_last : (plan : Plan) (past : List Entry) (entry : Entry) (from to octet
 sent_last plan [] entry from to octets sends made = inl (sends, made)
 sent_last plan (first ∷ past) entry from to octets sends made = inr (sent_last plan past entry from to octets sends made)
 
-founded_before : (plan : Plan) (past more : List Entry) (units : List unit.Unit) (kind : Kind) (u : unit.Unit) → IsMadeOn plan past units kind u
+founded_before : (plan : Plan) (past more : List Entry) (units : List DataUnit) (kind : Kind) (u : DataUnit) → IsMadeOn plan past units kind u
     → IsMadeOn plan (past ++ more) units kind u
 founded_before plan past more units Dt u h = sent_before plan past more u.source u.destination u.octets h
 founded_before plan past more units Er u h = h
 founded_before plan past more units Erq u h = h
 founded_before plan past more units Erp u h = h
 
-unit_later : (plan : Plan) (past more : List Entry) (units : List unit.Unit) (u : unit.Unit) → UnitIsSound plan past units u
+unit_later : (plan : Plan) (past more : List Entry) (units : List DataUnit) (u : DataUnit) → UnitIsSound plan past units u
     → UnitIsSound plan (past ++ more) units u
 unit_later plan past more units u h = record {
   founded = founded_before plan past more units u.kind u h.founded;
@@ -42,7 +42,7 @@ unit_later plan past more units u h = record {
 }
 
 -- units stay sound as the past grows
-pub units_later : (plan : Plan) (past more : List Entry) (units : List unit.Unit) → UnitsAreSound plan past units → UnitsAreSound plan (past ++ more) units
+pub units_later : (plan : Plan) (past more : List Entry) (units : List DataUnit) → UnitsAreSound plan past units → UnitsAreSound plan (past ++ more) units
 units_later plan past more units h = record {
   each = AllByRecursion-implies (UnitIsSound plan past units) (UnitIsSound plan (past ++ more) units) (unit_later plan past more units) units h.each;
   rest = h.rest;
@@ -65,8 +65,8 @@ module _ (name : List ℕ) (number : ℕ) (from to : List ℕ) where
   requested_last [] entry line there says = inl ((line, there, says), tt)
   requested_last (first ∷ past) entry line there says = inr (requested_last past entry line there says)
 
-pub pending_later : (past : List Entry) (entry : Entry) (units more : List unit.Unit) (place : ℕ) (name : List ℕ)
-    → AllByRecursion (SaysNoRestart name) entry.lines → (request : unit.Unit) → IsPending past units place name request
+pub pending_later : (past : List Entry) (entry : Entry) (units more : List DataUnit) (place : ℕ) (name : List ℕ)
+    → AllByRecursion (SaysNoRestart name) entry.lines → (request : DataUnit) → IsPending past units place name request
     → IsPending (past ++ entry ∷ []) (units ++ more) place name request
 pending_later past entry units more place name none request h = record {
   made = Contains-append_left units more request h.made;

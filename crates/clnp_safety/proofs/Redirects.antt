@@ -8,37 +8,37 @@ use Rattle.clnp_machine.specs.ClnpPlan.declared.config.Limits.{Limits}
 use Rattle.clnp_machine.specs.Content.{Content}
 use Rattle.clnp_machine.specs.System.{SystemState, FrameComes, Output, Transmits, SendsEsis, Notes, Effect}
 use Rattle.clnp_machine.specs.Step.{step}
-use Rattle.clnp_machine.specs.Steps.{IsRedirectFor, KeepsNextHop, KeepsNextHops}
-use Rattle.clnp_network.specs.World.{Numbered, World, frame_to, give_to, is_late, put_out, takes_effect, with_effect}
+use Rattle.clnp_machine.specs.EveryStep.{IsRedirectFor, KeepsNextHop, KeepsNextHops}
+use Rattle.clnp_network.specs.LabelledNetwork.{Numbered, LabelledNetwork, frame_to, give_to, is_late, put_out, takes_effect, with_effect}
 use Rattle.clnp_network.specs.Safe.{ChangesOneNextHop, RedirectsChangeOneNextHop}
 use Rattle.clnp_safety.proofs.Lines.{AnyLine}
 use Rattle.clnp_safety.proofs.Steps.{Keeps, keeps-put_all_out}
 
 -- What the outputs of a system leave of the systems.
 
-abbrev Has : List SystemState → World → Type 0
+abbrev Has : List SystemState → LabelledNetwork → Type 0
 Has systems v = v.systems ≡ systems
 
-put_out_has : (systems : List SystemState) (system : SystemState) (output : Output) (v : World) → Has systems v → Keeps (Has systems) AnyLine (put_out system v output)
+put_out_has : (systems : List SystemState) (system : SystemState) (output : Output) (v : LabelledNetwork) → Has systems v → Keeps (Has systems) AnyLine (put_out system v output)
 put_out_has systems system (Notes note) v k = record { world = k; lines = (tt, tt) }
 put_out_has systems system (Transmits port target packet) v k = record { world = k; lines = (tt, tt) }
 put_out_has systems system (SendsEsis port target value) v k = record { world = k; lines = (tt, tt) }
 
 -- a system that takes a step changes no other
-pub systems_after : (w : World) (place : ℕ) (effect : Effect) → (takes_effect w place effect).world.systems ≡ slice_set w.systems place effect.after
+pub systems_after : (w : LabelledNetwork) (place : ℕ) (effect : Effect) → (takes_effect w place effect).world.systems ≡ slice_set w.systems place effect.after
 systems_after w place effect =
     let systems = slice_set w.systems place effect.after in
     (keeps-put_all_out (Has systems) AnyLine effect.after effect.outputs
-    (AllByRecursion-any (λ output. (v : World) → Has systems v → Keeps (Has systems) AnyLine (put_out effect.after v output)) (put_out_has systems effect.after)
+    (AllByRecursion-any (λ output. (v : LabelledNetwork) → Has systems v → Keeps (Has systems) AnyLine (put_out effect.after v output)) (put_out_has systems effect.after)
     effect.outputs)
     (with_effect w place effect) refl).world
 
 -- where nothing changes, no next hop does
-stays : (destination : List ℕ) (place : ℕ) (w : World) → ChangesOneNextHop destination place w w
+stays : (destination : List ℕ) (place : ℕ) (w : LabelledNetwork) → ChangesOneNextHop destination place w w
 stays destination place w = record { others = λ other apart. refl; there = λ s here. (s, here, λ address apart. record { hop = refl; way = refl }) }
 
 -- a system takes a step after which it sends as before but to one address
-step_changes : (destination : List ℕ) (w : World) (place : ℕ) (s : SystemState) (effect : Effect) → slice_get w.systems place ≡ Some s
+step_changes : (destination : List ℕ) (w : LabelledNetwork) (place : ℕ) (s : SystemState) (effect : Effect) → slice_get w.systems place ≡ Some s
     → KeepsNextHops destination s effect.after → ChangesOneNextHop destination place w (takes_effect w place effect).world
 step_changes destination w place s effect here keeps = record {
   others = λ other apart.
@@ -59,7 +59,7 @@ OnRedirects =
     (s : SystemState) (port : ℕ) (sender : List ℕ) (to_group : Bool) (content : Content) (destination : List ℕ)
     → IsRedirectFor destination content → KeepsNextHops destination s (step s (FrameComes port sender to_group content)).after
 
-module _ (law : OnRedirects) (limits : Limits) (w : World) (given : Numbered) (place : ℕ) (destination : List ℕ)
+module _ (law : OnRedirects) (limits : Limits) (w : LabelledNetwork) (given : Numbered) (place : ℕ) (destination : List ℕ)
     (is : IsRedirectFor destination given.copy.content) where
   -- the world after a copy was given to who was found
   abbrev Changes : Option SystemState → Type 0
@@ -75,6 +75,6 @@ module _ (law : OnRedirects) (limits : Limits) (w : World) (given : Numbered) (p
             (law s _ given.copy.sender _ given.copy.content destination is))
       ]
 
-pub redirects_change_one : OnRedirects → (limits : Limits) (w : World) → RedirectsChangeOneNextHop limits w
+pub redirects_change_one : OnRedirects → (limits : Limits) (w : LabelledNetwork) → RedirectsChangeOneNextHop limits w
 redirects_change_one law limits w given place destination is =
     given_changes law limits w given place destination is (slice_get w.systems place) refl

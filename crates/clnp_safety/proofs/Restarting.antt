@@ -11,10 +11,10 @@ use Rattle.clnp_machine.specs.ClnpPlan.declared.note.Note.{Note}
 use Rattle.clnp_machine.specs.ClnpPlan.declared.note.Note.TheVariants as note
 use Rattle.clnp_network.specs.Scenario.Scenario.{IsFit, Plan}
 use Rattle.clnp_network.specs.Scenario.declared.event.Move.{Move}
-use Rattle.clnp_machine.specs.Unit as unit
+use Rattle.clnp_machine.specs.Unit.{DataUnit}
 use Rattle.clnp_machine.specs.System.{SystemState, IsRestarted}
 use Rattle.clnp_machine.specs.Step.{restart, step}
-use Rattle.clnp_network.specs.World.{World, comes_to, takes_effect}
+use Rattle.clnp_network.specs.LabelledNetwork.{LabelledNetwork, comes_to, takes_effect}
 use Rattle.clnp_network.specs.Run.{Entry}
 use Rattle.clnp_network.specs.Safe.{SaysNoRestart}
 use Rattle.clnp_safety.specs.Invariant.{AreUsesUntil, EachRests, SystemIsSound, WorldIsSound}
@@ -29,7 +29,7 @@ use Rattle.clnp_safety.proofs.Honest.{NoteIsHonest}
 pub no_uses : (now : ℕ) → AreUsesUntil now []
 no_uses now = record { until_now = tt; in_order = λ i j d below within. absurd (omega arith) }
 
-restart_is_sound : (plan : Plan) (units : List unit.Unit) (place : ℕ) (s : SystemState) → SystemIsSound plan units place s
+restart_is_sound : (plan : Plan) (units : List DataUnit) (place : ℕ) (s : SystemState) → SystemIsSound plan units place s
     → SystemIsSound plan units place (restart s).after
 restart_is_sound plan units place s sound = record {
   stands_at = sound.stands_at;
@@ -77,7 +77,7 @@ names_differ systems place other first second distinct at there apart same =
           (name_at systems other second there) (name_at systems place first at) (sym same)
     ]
 
-module _ (laws : StepLaws) (plan : Plan) (fit : IsFit plan) (past : List Entry) (move : Move) (w : World) (h : WorldIsSound plan past w) (place : ℕ) where
+module _ (laws : StepLaws) (plan : Plan) (fit : IsFit plan) (past : List Entry) (move : Move) (w : LabelledNetwork) (h : WorldIsSound plan past w) (place : ℕ) where
   -- the system at the place waits for no answer
   abbrev IsQuietThere : (other : ℕ) → SystemState → Type 0
   IsQuietThere other t = other ≡ place → t.pending ≡ []

@@ -8,12 +8,11 @@ use Rattle.std.proofs.lemmas.List.Elements.{Contains-append_cases}
 use Rattle.clnp_network.specs.Scenario.Scenario.{Plan}
 use Rattle.clnp_network.specs.Scenario.declared.event.Move.{Move}
 use Rattle.clnp_machine.specs.Identifiers.{Identifiers, restarted}
-use Rattle.clnp_machine.specs.Unit as unit
-use Rattle.clnp_machine.specs.Unit.{DeclaredAt}
+use Rattle.clnp_machine.specs.Unit.{DataUnit, DeclaredAt}
 use Rattle.clnp_machine.specs.System.{SystemState, Input, MomentComes, IsRestarted, Output, Transmits, SendsEsis, Notes, Effect}
 use Rattle.clnp_machine.specs.Step.{step}
-use Rattle.clnp_machine.specs.Steps.{IsFresh, RestartsNothing, moment_after}
-use Rattle.clnp_network.specs.World.{World, put_out, takes_effect, with_effect, first_world}
+use Rattle.clnp_machine.specs.EveryStep.{IsFresh, RestartsNothing, moment_after}
+use Rattle.clnp_network.specs.LabelledNetwork.{LabelledNetwork, put_out, takes_effect, with_effect, first_world}
 use Rattle.clnp_network.specs.Run.{world_after}
 use Rattle.clnp_network.specs.Safe.{IdentifiersRest}
 use Rattle.clnp_safety.specs.Invariant.{EachRests}
@@ -27,17 +26,17 @@ use Rattle.clnp_safety.proofs.Restarting.{no_uses}
 use Rattle.clnp_safety.proofs.Steps.{Keeps, keeps-put_all_out}
 
 -- the system stands at a place, and its identifiers are sound
-record HasSound (reuse place : ℕ) (units : List unit.Unit) (s : SystemState) : Type 0 where
+record HasSound (reuse place : ℕ) (units : List DataUnit) (s : SystemState) : Type 0 where
   stands_at : s.place ≡ place
   identifiers : AreSound reuse s.moment place units s.identifiers
 
 -- units rest one behind another, and each system has sound identifiers
-record UnitsRest (reuse : ℕ) (w : World) : Type 0 where
+record UnitsRest (reuse : ℕ) (w : LabelledNetwork) : Type 0 where
   rest : EachRests reuse w.units
   each : (place : ℕ) (s : SystemState) → slice_get w.systems place ≡ Some s → HasSound reuse place w.units s
 
 -- after a restart all units rest in the quiet time
-restarted_sound : (reuse now place : ℕ) (units : List unit.Unit) (ids : Identifiers) → AreSound reuse now place units ids
+restarted_sound : (reuse now place : ℕ) (units : List DataUnit) (ids : Identifiers) → AreSound reuse now place units ids
     → AreSound reuse now place units (restarted now ids)
 restarted_sound reuse now place units ids sound = record {
   reuse_is = sound.reuse_is;
@@ -48,7 +47,7 @@ restarted_sound reuse now place units ids sound = record {
 }
 
 -- Other systems stay as they are.
-other_sound : (reuse place other : ℕ) (units made : List unit.Unit) (moment : ℕ) (t : SystemState) → AllByRecursion (IsMadeNow moment place) made
+other_sound : (reuse place other : ℕ) (units made : List DataUnit) (moment : ℕ) (t : SystemState) → AllByRecursion (IsMadeNow moment place) made
     → other ≢ place → HasSound reuse other units t → HasSound reuse other (units ++ made) t
 other_sound reuse place other units made moment t new apart h = record {
   stands_at = h.stands_at;
@@ -71,21 +70,21 @@ steady_or_restarted IsRestarted = inr refl
 steady_or_restarted _ = inl tt
 
 -- the moment that comes to a system is its next one, and else it keeps its own
-moment_comes : (w : World) (s : SystemState) (input : Input) → IsOfNow w s input → s.moment ≤ moment_after s input
+moment_comes : (w : LabelledNetwork) (s : SystemState) (input : Input) → IsOfNow w s input → s.moment ≤ moment_after s input
 moment_comes w s (MomentComes now) at = omega arith
 moment_comes w s _ at = omega arith
 
-put_out_rests : (reuse : ℕ) (system : SystemState) (output : Output) (v : World) → UnitsRest reuse v → Keeps (UnitsRest reuse) AnyLine (put_out system v output)
+put_out_rests : (reuse : ℕ) (system : SystemState) (output : Output) (v : LabelledNetwork) → UnitsRest reuse v → Keeps (UnitsRest reuse) AnyLine (put_out system v output)
 put_out_rests reuse system (Notes note) v k = record { world = k; lines = (tt, tt) }
 put_out_rests reuse system (Transmits port target packet) v k = record { world = record { rest = k.rest; each = k.each }; lines = (tt, tt) }
 put_out_rests reuse system (SendsEsis port target value) v k = record { world = record { rest = k.rest; each = k.each }; lines = (tt, tt) }
 
 -- the identifiers are sound after a step at a moment, and the units rest
-record EffectRests (reuse place : ℕ) (units : List unit.Unit) (now : ℕ) (effect : Effect) : Type 0 where
+record EffectRests (reuse place : ℕ) (units : List DataUnit) (now : ℕ) (effect : Effect) : Type 0 where
   identifiers : AreSound reuse now place (units ++ effect.units) effect.after.identifiers
   rest : EachRests reuse (units ++ effect.units)
 
-module _ (laws : StepLaws) (reuse : ℕ) (w : World) (place : ℕ) (s : SystemState) (input : Input) (there : slice_get w.systems place ≡ Some s)
+module _ (laws : StepLaws) (reuse : ℕ) (w : LabelledNetwork) (place : ℕ) (s : SystemState) (input : Input) (there : slice_get w.systems place ≡ Some s)
     (at : IsOfNow w s input) (k : UnitsRest reuse w) where
   abbrev effect : Effect
   effect = step s input
@@ -124,7 +123,7 @@ module _ (laws : StepLaws) (reuse : ℕ) (w : World) (place : ℕ) (s : SystemSt
       let done = step_rests (steady_or_restarted input) in
       let moment = laws.steps.moment s input in
       keeps-put_all_out (UnitsRest reuse) AnyLine effect.after effect.outputs
-      (AllByRecursion-any (λ output. (v : World) → UnitsRest reuse v → Keeps (UnitsRest reuse) AnyLine (put_out effect.after v output))
+      (AllByRecursion-any (λ output. (v : LabelledNetwork) → UnitsRest reuse v → Keeps (UnitsRest reuse) AnyLine (put_out effect.after v output))
       (put_out_rests reuse effect.after) effect.outputs)
       (with_effect w place effect)
       (record {

@@ -11,16 +11,15 @@ use Rattle.clnp_network.specs.Scenario.declared.event.Event.TheVariants.{Send, E
 use Rattle.clnp_network.specs.Scenario.declared.event.Event.TheVariants as event
 use Rattle.clnp_network.specs.Scenario.declared.event.Move.{Move}
 use Rattle.clnp_network.specs.Scenario.declared.event.Move.TheVariants.{One, SettleOne, LoseOne, TickOne, TickSystem}
-use Rattle.clnp_machine.specs.Unit as unit
-use Rattle.clnp_machine.specs.Unit.{Outside, Packet}
+use Rattle.clnp_machine.specs.Unit.{DataUnit, Outside, Packet}
 use Rattle.clnp_machine.specs.Content.{Content, Labelled, Esis, Unlabelled}
 use Rattle.clnp_machine.specs.System.{SystemState}
-use Rattle.clnp_machine.specs.Steps.{IsRangeOf, segments_in}
+use Rattle.clnp_machine.specs.EveryStep.{IsRangeOf, segments_in}
 use Rattle.clnp_machine.specs.Told.{NotesNoRule}
 use Rattle.clnp_machine.proofs.Gained.{each_kept}
 use Rattle.clnp_machine.specs.Reassembly.Arrival.{Arrival}
 use Rattle.clnp_machine.specs.Reassembly.Buffer.{Buffer}
-use Rattle.clnp_network.specs.World.{World, Copy, after, event_happens, deliver, settle_one, lose_one, tick_one, tick_system, first_world}
+use Rattle.clnp_network.specs.LabelledNetwork.{LabelledNetwork, Copy, after, event_happens, deliver, settle_one, lose_one, tick_one, tick_system, first_world}
 use Rattle.clnp_network.specs.Clocks.{StayTogether, StaysTogether, clocks_after, clocks_of}
 use Rattle.clnp_network.specs.Run.{Entry, entries_of, moves_made, run, world_after}
 use Rattle.clnp_network.specs.Safe.{AsksFor, CameInCopy, CarriesRanges, EachIsFounded, EachWasSent, FramesAreUnbroken, HoldsOneUnit, HoldsUnitsApart, IsHonest, IsSegmentOf, IsSend, IsUnbroken, NoInterference, RangeIn, ReportsStand, StandsInCopy, TellsNoRule}
@@ -48,7 +47,7 @@ record IsOfFitPlan (plan : Plan) (event : Event) : Type 0 where
   closed : InjectsNothing event
 
 module _ (laws : StepLaws) (plan : Plan) (fit : IsFit plan) (closed : IsClosed plan) where
-  module _ (past : List Entry) (w : World) (h : WorldIsSound plan past w) (stood : ReportsStand w) where
+  module _ (past : List Entry) (w : LabelledNetwork) (h : WorldIsSound plan past w) (stood : ReportsStand w) where
     event_is_sound : (move : Move) (asked : Option Event) → ((event : Event) → asked ≡ Some event → IsOfFitPlan plan event)
         → ((from to octets : List ℕ) → AsksFor asked from to octets → IsSend plan move from to octets)
         → MoveIsSound plan past move w (event_happens plan.subnets plan.limits w asked)
@@ -101,13 +100,13 @@ module _ (laws : StepLaws) (plan : Plan) (fit : IsFit plan) (closed : IsClosed p
         (subst (AreTogether plan.limits.skew) (sym (clocks_then laws plan w move)) together)
 
   -- clocks stay together from a world on
-  abbrev Stay : World → List Move → Type 0
+  abbrev Stay : LabelledNetwork → List Move → Type 0
   Stay w moves = StayTogether plan.limits.skew (clocks_of w) moves
 
-  stay_next : (w : World) (move : Move) (moves : List Move) → Stay w (move ∷ moves) → Stay (after plan w move).world moves
+  stay_next : (w : LabelledNetwork) (move : Move) (moves : List Move) → Stay w (move ∷ moves) → Stay (after plan w move).world moves
   stay_next w move moves stay = subst (λ clocks. StayTogether plan.limits.skew clocks moves) (sym (clocks_then laws plan w move)) stay.1
 
-  moves_are_honest : (moves : List Move) (past : List Entry) (w : World) → WorldIsSound plan past w
+  moves_are_honest : (moves : List Move) (past : List Entry) (w : LabelledNetwork) → WorldIsSound plan past w
       → AllStands plan w → Stay w moves → EachWasSent plan past (entries_of plan w moves)
   moves_are_honest [] past w h k stay = tt
   moves_are_honest (move ∷ moves) past w h k stay = (
@@ -116,7 +115,7 @@ module _ (laws : StepLaws) (plan : Plan) (fit : IsFit plan) (closed : IsClosed p
         (move_stands laws plan fit closed w move k) (stay_next w move moves stay),
   )
 
-  moves_are_founded : (moves : List Move) (past : List Entry) (w : World) → WorldIsSound plan past w → AllStands plan w → Stay w moves
+  moves_are_founded : (moves : List Move) (past : List Entry) (w : LabelledNetwork) → WorldIsSound plan past w → AllStands plan w → Stay w moves
       → EachIsFounded plan w past moves
   moves_are_founded [] past w h k stay = tt
   moves_are_founded (move ∷ moves) past w h k stay = (
@@ -127,8 +126,8 @@ module _ (laws : StepLaws) (plan : Plan) (fit : IsFit plan) (closed : IsClosed p
 
   -- what follows of the lines of each move holds of all entries
   module _ (Q : List Line → Type 0)
-      (follows : (past : List Entry) (w : World) (lines : List Line) → LinesAreSound plan past w lines → Q lines) where
-    moves_are : (moves : List Move) (past : List Entry) (w : World) → WorldIsSound plan past w → AllStands plan w → Stay w moves
+      (follows : (past : List Entry) (w : LabelledNetwork) (lines : List Line) → LinesAreSound plan past w lines → Q lines) where
+    moves_are : (moves : List Move) (past : List Entry) (w : LabelledNetwork) → WorldIsSound plan past w → AllStands plan w → Stay w moves
         → AllByRecursion (λ (entry : Entry). Q entry.lines) (entries_of plan w moves)
     moves_are [] past w h k stay = tt
     moves_are (move ∷ moves) past w h k stay = (
@@ -138,7 +137,7 @@ module _ (laws : StepLaws) (plan : Plan) (fit : IsFit plan) (closed : IsClosed p
     )
 
   -- a world that moves lead to is sound beside their entries
-  moves_are_sound : (moves : List Move) (past : List Entry) (w : World) → WorldIsSound plan past w → AllStands plan w → Stay w moves
+  moves_are_sound : (moves : List Move) (past : List Entry) (w : LabelledNetwork) → WorldIsSound plan past w → AllStands plan w → Stay w moves
       → WorldIsSound plan (past ++ entries_of plan w moves) (world_after plan w moves)
   moves_are_sound [] past w h k stay = subst (λ entries. WorldIsSound plan entries w) (sym (append-nil past)) h
   moves_are_sound (move ∷ moves) past w h k stay =
@@ -208,7 +207,7 @@ not_outside plan closed copies copy has outside =
     AllByRecursion-contains InjectsNothing plan.events (Inject it.subnet (has.outside outside).first.sender it.target (has.outside outside).outside.octets)
     it.there closed
 
-range_of_copy : (plan : Plan) → IsClosed plan → (units : List unit.Unit) (copies : List Copy) (copy : Copy) → OutsideOrRange units copy
+range_of_copy : (plan : Plan) → IsClosed plan → (units : List DataUnit) (copies : List Copy) (copy : Copy) → OutsideOrRange units copy
     → HasItsMaker plan copies copy → RangeIn units copy.birth copy.content
 range_of_copy plan closed units copies copy is has =
     elim is [ inl outside ↦ absurd (not_outside plan closed copies copy has outside) | inr range ↦ range ]
@@ -219,7 +218,7 @@ ranges_are_carried laws plan fit closed moves =
     AllByRecursion-both (OutsideOrRange w.units) (HasItsMaker plan w.copies) (λ (copy : Copy). RangeIn w.units copy.birth copy.content)
     (range_of_copy plan closed w.units w.copies) w.copies (ranges_or_outside laws plan fit moves) (makers_are_known laws plan moves)
 
-unbroken : (units : List unit.Unit) (birth : ℕ) (content : Content) → RangeIn units birth content → PduIsUnbroken content → IsUnbroken content
+unbroken : (units : List DataUnit) (birth : ℕ) (content : Content) → RangeIn units birth content → PduIsUnbroken content → IsUnbroken content
 unbroken units birth (Labelled packet following) range is = is
 unbroken units birth (Esis value following) range is = (is, range.1)
 unbroken units birth (Unlabelled octets) range is = absurd range
@@ -232,8 +231,8 @@ frames_are_unbroken laws plan fit closed moves =
     (ranges_are_carried laws plan fit closed moves) (pdus_are_unbroken laws plan fit moves)
 
 -- what a system keeps of a unit stands in copies that carry nothing behind it
-module _ (units : List unit.Unit) (copies : List Copy) (sound : AllByRecursion (CopyIsSound units) copies) where
-  segment_stands : (u : unit.Unit) (arrival : Arrival Packet) → IsOfUnit units u arrival → CameInCopy copies arrival → IsSegmentOf copies u arrival
+module _ (units : List DataUnit) (copies : List Copy) (sound : AllByRecursion (CopyIsSound units) copies) where
+  segment_stands : (u : DataUnit) (arrival : Arrival Packet) → IsOfUnit units u arrival → CameInCopy copies arrival → IsSegmentOf copies u arrival
   segment_stands u arrival of came =
       let carrier = AllByRecursion-contains (CopyIsSound units) copies came.stands.copy came.stands.there sound in
       let carried : IsRangeOf units arrival.carried × (came.following ≡ []) = subst (Carries (IsRangeOf units)) came.stands.carries carrier.carries in

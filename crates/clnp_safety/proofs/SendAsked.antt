@@ -5,7 +5,7 @@ use Rattle.clnp_machine.proofs.ClnpBase.SameOctets.{same_from}
 use Rattle.clnp_machine.specs.PduHeader.declared.kind.Kind.{Kind}
 use Rattle.clnp_machine.specs.ClnpPlan.declared.ask.Ask.{Ask}
 use Rattle.clnp_machine.specs.Identifiers.{not_drawn}
-use Rattle.clnp_machine.specs.Unit as unit
+use Rattle.clnp_machine.specs.Unit.{DataUnit, DeclaredAt}
 use Rattle.clnp_machine.specs.System.{SystemState}
 use Rattle.clnp_machine.specs.Local.{is_own, identifier_for, unit_of, not_drawn_note, identifier_refusal, refusal, with_use}
 use Rattle.clnp_network.specs.Scenario.Scenario.{Plan}
@@ -23,7 +23,7 @@ own_address s address own =
     subst (Contains s.configuration.addresses) same (found.0, found.2, found.3)
 
 -- a unit that is made where it isn't refused draws the next identifier, as it may be, or none
-pub made_draws : (s : SystemState) (u : unit.Unit) (segment : Bool) → u.identifier ≡ identifier_for s segment → identifier_refusal s (identifier_for s segment) ≡ None
+pub made_draws : (s : SystemState) (u : DataUnit) (segment : Bool) → u.identifier ≡ identifier_for s segment → identifier_refusal s (identifier_for s segment) ≡ None
     → Draws s.moment s.identifiers (with_use s u.identifier) (u ∷ [])
 made_draws s u false is none = inl (record { identifiers = ap (with_use s) is; whole = (is, tt) })
 made_draws s u true is none =
@@ -35,13 +35,13 @@ made_draws s u true is none =
       identifiers = ap (with_use s) is;
     })
 
-module _ (laws : StepLaws) (plan : Plan) (units : List unit.Unit) (place : ℕ) (s : SystemState) (kind : Kind) (from to octets : List ℕ) (ask : Ask) where
+module _ (laws : StepLaws) (plan : Plan) (units : List DataUnit) (place : ℕ) (s : SystemState) (kind : Kind) (from to octets : List ℕ) (ask : Ask) where
   -- it is the system's next one
   pub asked_is_new : refusal s (unit_of s kind from to octets ask) ≡ None → SystemIsSound plan units place s
       → IsNew place s (unit_of s kind from to octets ask)
   asked_is_new none h =
-      let u : unit.Unit = unit_of s kind from to octets ask in
+      let u : DataUnit = unit_of s kind from to octets ask in
       record {
-        made = record { maker = ap unit.DeclaredAt h.stands_at; made = refl };
+        made = record { maker = ap DeclaredAt h.stands_at; made = refl };
         draws = made_draws s u ask.segment refl ((laws.deeds.allowed s u).0 none).identifier;
       }

@@ -2,7 +2,7 @@
 use Rattle.clnp_machine.proofs.ClnpBase.Lists.{AllByRecursion-implies}
 use Rattle.std.proofs.Common.{ℕ, List, [], ◌∷◌, ◌++◌, arith}
 use Rattle.clnp_network.specs.Scenario.Scenario.{Plan}
-use Rattle.clnp_machine.specs.Unit as unit
+use Rattle.clnp_machine.specs.Unit.{DataUnit}
 use Rattle.clnp_machine.specs.System.{SystemState}
 use Rattle.clnp_machine.specs.Local.{with_use, makes}
 use Rattle.clnp_safety.specs.Invariant.{EachRests, BufferIsSound, SystemIsSound}
@@ -10,11 +10,11 @@ use Rattle.clnp_safety.proofs.Draws.{AreSound, Draws, IsMadeNow, rest_after, sou
 use Rattle.clnp_safety.proofs.Units.{buffer_later}
 
 -- a unit that the system at a place makes, with the next identifier where it has one
-pub record IsNew (place : ℕ) (s : SystemState) (u : unit.Unit) : Type 0 where
+pub record IsNew (place : ℕ) (s : SystemState) (u : DataUnit) : Type 0 where
   pub made : IsMadeNow s.moment place u
   pub draws : Draws s.moment s.identifiers (with_use s u.identifier) (u ∷ [])
 
-module _ (plan : Plan) (units : List unit.Unit) (place : ℕ) (s : SystemState) (u : unit.Unit) (new : IsNew place s u) (h : SystemIsSound plan units place s) where
+module _ (plan : Plan) (units : List DataUnit) (place : ℕ) (s : SystemState) (u : DataUnit) (new : IsNew place s u) (h : SystemIsSound plan units place s) where
   before : AreSound plan.limits.reuse s.moment place units s.identifiers
   before = record { reuse_is = h.reuse; uses = h.uses; accounted = h.accounted }
 

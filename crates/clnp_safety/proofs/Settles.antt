@@ -5,14 +5,14 @@ use Rattle.std.proofs.Common.{◌≡◌, ◌∙◌, ◌≤◌, ℕ, List, ◌+�
 use Rattle.std.specs.Prelude.{slice_get, Option, None, Some}
 use Rattle.std.proofs.lemmas.Option.{slice_get_within}
 use Rattle.clnp_network.specs.Scenario.Scenario.{Plan, IsFit}
-use Rattle.clnp_machine.specs.EsisTables.declared.fact.Place.{Place}
+use Rattle.clnp_machine.specs.EsisTables.declared.fact.Neighbour.{Neighbour}
 use Rattle.clnp_machine.specs.ClnpPlan.Journal.{Line}
 use Rattle.clnp_machine.specs.Unit.{Maker, Packet}
 use Rattle.clnp_machine.specs.Content.{Content, Labelled, Esis, Unlabelled}
-use Rattle.clnp_machine.specs.Steps.{IsRangeOf}
+use Rattle.clnp_machine.specs.EveryStep.{IsRangeOf}
 use Rattle.clnp_machine.specs.System.{SystemState, Input}
 use Rattle.clnp_machine.specs.Step.{step}
-use Rattle.clnp_network.specs.World.{World, Copy, Numbered, Step, clock_at, clock_of, first_port, is_group, is_late, frame_to, takes_effect, addressees_from, settle_copy, settle_one, deliver, lose_copy, lose_one}
+use Rattle.clnp_network.specs.LabelledNetwork.{LabelledNetwork, Copy, Numbered, Step, clock_at, clock_of, first_port, is_group, is_late, frame_to, takes_effect, addressees_from, settle_copy, settle_one, deliver, lose_copy, lose_one}
 use Rattle.clnp_network.specs.Clocks.{clocks_of}
 use Rattle.clnp_network.specs.Run.{Entry}
 use Rattle.clnp_network.specs.Safe.{ReportsStand}
@@ -29,13 +29,13 @@ use Rattle.clnp_safety.proofs.Units.{copy_later}
 use Rattle.clnp_safety.proofs.Honest.{ComesSoundly, NoteIsSteady}
 
 -- the clock of a system is as in a network
-abbrev HasClockOf : World → (place : ℕ) → SystemState → Type 0
+abbrev HasClockOf : LabelledNetwork → (place : ℕ) → SystemState → Type 0
 HasClockOf w place s = slice_get (clocks_of w) place ≡ Some s.moment
 
-module _ (laws : StepLaws) (plan : Plan) (fit : IsFit plan) (past : List Entry) (w : World) (h : WorldIsSound plan past w)
+module _ (laws : StepLaws) (plan : Plan) (fit : IsFit plan) (past : List Entry) (w : LabelledNetwork) (h : WorldIsSound plan past w)
     (stood : ReportsStand w) where
   -- what the worlds of a settling keep: all clocks are as before, too
-  abbrev Sound : World → Type 0
+  abbrev Sound : LabelledNetwork → Type 0
   Sound = IsSoundWith plan past w (HasClockOf w)
 
   here : Sound w
@@ -57,7 +57,7 @@ module _ (laws : StepLaws) (plan : Plan) (fit : IsFit plan) (past : List Entry) 
   }
 
   -- A packet of a copy that isn't late comes in time: its unit's maker is a system whose clock the copy isn't too old for.
-  packet_in_time : (v : World) → Sound v → (place : ℕ) (s : SystemState) → HasClockOf w place s → (p : Packet) → Contains w.units p.unit
+  packet_in_time : (v : LabelledNetwork) → Sound v → (place : ℕ) (s : SystemState) → HasClockOf w place s → (p : Packet) → Contains w.units p.unit
       → clock_of v p.unit.maker ≤ p.unit.made + plan.limits.age → ComesInTime plan v.units s.moment p
   packet_in_time v k place s at p made young =
       let it = unit_sound plan past w.units p.unit h.made made in
@@ -74,7 +74,7 @@ module _ (laws : StepLaws) (plan : Plan) (fit : IsFit plan) (past : List Entry) 
         young = subst (λ now. now ≤ p.unit.made + plan.limits.age) clock young;
       }
 
-  content_in_time : (v : World) → Sound v → (place : ℕ) (s : SystemState) → HasClockOf w place s → (maker : Maker) (birth : ℕ) (content : Content)
+  content_in_time : (v : LabelledNetwork) → Sound v → (place : ℕ) (s : SystemState) → HasClockOf w place s → (maker : Maker) (birth : ℕ) (content : Content)
       → Carries (IsRangeOf w.units) content → IsMadeBy maker content → IsBornWithUnit birth content → clock_of v maker ≤ birth + plan.limits.age
       → ContentInTime plan v.units s.moment content
   content_in_time v k place s at maker birth (Labelled p following) carries by born soon =
@@ -83,16 +83,16 @@ module _ (laws : StepLaws) (plan : Plan) (fit : IsFit plan) (past : List Entry) 
   content_in_time v k place s at maker birth (Esis value following) carries by born soon = tt
   content_in_time v k place s at maker birth (Unlabelled octets) carries by born soon = tt
 
-  is_soon : (copy : Copy) (v : World) → is_late plan.limits v copy ≡ false → clock_of v copy.maker ≤ copy.birth + plan.limits.age
+  is_soon : (copy : Copy) (v : LabelledNetwork) → is_late plan.limits v copy ≡ false → clock_of v copy.maker ≤ copy.birth + plan.limits.age
   is_soon copy v soon = grind arith
 
   -- a system takes in a copy that was there before the move
-  taken_is_sound : (copy : Copy) → CopyIsSound w.units copy → (v : World) (place : ℕ) → Sound v → (s : SystemState)
+  taken_is_sound : (copy : Copy) → CopyIsSound w.units copy → (v : LabelledNetwork) (place : ℕ) → Sound v → (s : SystemState)
       → slice_get v.systems place ≡ Some s → is_late plan.limits v copy ≡ false
       → Keeps Sound Told (takes_effect v place (step s (frame_to s copy)))
   taken_is_sound copy carries v place k s there soon =
       let it = k.stands.each place s there in
-      let from : Place = record { port = first_port copy s.configuration.role s.attached.ports; snpa = copy.sender } in
+      let from : Neighbour = record { port = first_port copy s.configuration.role s.attached.ports; snpa = copy.sender } in
       let input : Input = frame_to s copy in
       let now : CopyIsSound v.units copy = subst (λ us. CopyIsSound us copy) (sym k.front.1) (copy_later w.units k.front.0 copy carries) in
       let comes : ComesSoundly v.units input = (now.sender, now.carries, now.carried) in

@@ -18,14 +18,13 @@ use Rattle.clnp_network.specs.Scenario.Scenario.{InjectsNothing, IsClosed, IsFit
 use Rattle.clnp_network.specs.Scenario.declared.event.Event.{Event}
 use Rattle.clnp_network.specs.Scenario.declared.event.Event.TheVariants.{Send, Echo, Inject, Mtu, Route, Unroute, Port}
 use Rattle.clnp_network.specs.Scenario.declared.event.Move.{Move}
-use Rattle.clnp_machine.specs.Unit as unit
-use Rattle.clnp_machine.specs.Unit.{Maker, DeclaredAt, Packet}
+use Rattle.clnp_machine.specs.Unit.{DataUnit, Maker, DeclaredAt, Packet}
 use Rattle.clnp_machine.specs.Content.{Content, Labelled, Esis, Unlabelled}
 use Rattle.clnp_machine.specs.System.{SystemState, Input, FrameComes, Output, Transmits, SendsEsis, Notes, Effect}
 use Rattle.clnp_machine.specs.Step.{step}
-use Rattle.clnp_machine.specs.Steps.{ComesWith, IsAtHand, NotesOnly, ReportsOn, WasKeptOrComes, segments_in}
+use Rattle.clnp_machine.specs.EveryStep.{ComesWith, IsAtHand, NotesOnly, ReportsOn, WasKeptOrComes, segments_in}
 use Rattle.clnp_machine.specs.Told.{SpellsPdus}
-use Rattle.clnp_network.specs.World.{World, Copy, after, copy_from, copy_from_outside, first_port, first_world, frame_to, is_group, put_out, sends_frame, states_from, takes_effect, with_effect}
+use Rattle.clnp_network.specs.LabelledNetwork.{LabelledNetwork, Copy, after, copy_from, copy_from_outside, first_port, first_world, frame_to, is_group, put_out, sends_frame, states_from, takes_effect, with_effect}
 use Rattle.clnp_network.specs.Run.{Entry, entries_of, world_after}
 use Rattle.clnp_network.specs.Safe.{CameInCopy, KeepsWhatCame, ReportsOnCopy, ReportsStand, StandsInCopy}
 use Rattle.clnp_safety.specs.StepLaws.{StepLaws}
@@ -62,26 +61,26 @@ systems_later copies more systems h = AllByRecursion-implies (Came copies) (Came
 
 -- What comes stands in a copy.
 
-abbrev pub ComesStanding : World → Input → Type 0
+abbrev pub ComesStanding : LabelledNetwork → Input → Type 0
 ComesStanding w (FrameComes port sender to_group (Labelled p following)) = StandsInCopy w.copies p following
 ComesStanding w _ = Unit {0}
 
 contained : (copies : List Copy) (at : ℕ) (copy : Copy) → slice_get copies at ≡ Some copy → Contains copies copy
 contained copies at copy e = (at, slice_get_within copies at copy e, get_or_from_slice_get copies at copy copy e)
 
-content_stands : (w : World) (port : ℕ) (sender : List ℕ) (to_group : Bool) (content : Content) (copy : Copy) → copy.content ≡ content → Contains w.copies copy
+content_stands : (w : LabelledNetwork) (port : ℕ) (sender : List ℕ) (to_group : Bool) (content : Content) (copy : Copy) → copy.content ≡ content → Contains w.copies copy
     → ComesStanding w (FrameComes port sender to_group content)
 content_stands w port sender to_group (Labelled p following) copy is there = record { copy = copy; there = there; carries = is }
 content_stands w port sender to_group (Esis value following) copy is there = tt
 content_stands w port sender to_group (Unlabelled octets) copy is there = tt
 
-pub frame_stands : (w : World) (at : ℕ) (copy : Copy) → slice_get w.copies at ≡ Some copy → (v : World) → Follows w v → (s : SystemState)
+pub frame_stands : (w : LabelledNetwork) (at : ℕ) (copy : Copy) → slice_get w.copies at ≡ Some copy → (v : LabelledNetwork) → Follows w v → (s : SystemState)
     → ComesStanding v (frame_to s copy)
 frame_stands w at copy e v follows s =
     content_stands v (first_port copy s.configuration.role s.attached.ports) copy.sender (is_group copy.target) copy.content copy refl
     (subst (λ (copies : List Copy). Contains copies copy) (sym follows.copies.1) (Contains-append_left w.copies follows.copies.0 copy (contained w.copies at copy e)))
 
-came_with : (w : World) (input : Input) (arrival : Arrival Packet) → ComesStanding w input → ComesWith input arrival → CameInCopy w.copies arrival
+came_with : (w : LabelledNetwork) (input : Input) (arrival : Arrival Packet) → ComesStanding w input → ComesWith input arrival → CameInCopy w.copies arrival
 came_with w (FrameComes port sender to_group (Labelled p following)) arrival stands is =
     subst (CameInCopy w.copies) (sym is) (record { following = following; is_offered = refl; stands = stands })
 came_with w (FrameComes port sender to_group (Esis value following)) arrival stands is = absurd is
@@ -90,11 +89,11 @@ came_with w _ arrival stands is = absurd is
 
 -- What is kept.
 
-step_came : StepLaws → (w : World) (place : ℕ) (s : SystemState) (input : Input) → slice_get w.systems place ≡ Some s → ComesStanding w input
+step_came : StepLaws → (w : LabelledNetwork) (place : ℕ) (s : SystemState) (input : Input) → slice_get w.systems place ≡ Some s → ComesStanding w input
     → IsOfNow w s input → KeepsWhatCame w → Keeps KeepsWhatCame AnyLine (takes_effect w place (step s input))
 step_came laws w place s input there comes at k =
     let effect : Effect = step s input in
-    let later : World = (takes_effect w place effect).world in
+    let later : LabelledNetwork = (takes_effect w place effect).world in
     let more = effect_copies w place effect in
     let it : Came w.copies s = AllByRecursion-slice_get (Came w.copies) w.systems place s there k in
     let kept : Came w.copies effect.after =
@@ -112,7 +111,7 @@ step_came laws w place s input there comes at k =
       lines = AllByRecursion-any AnyLine (λ line. tt) (takes_effect w place effect).lines;
     }
 
-outside_came : (w : World) (subnet : ℕ) (sender : List ℕ) (target : Target) (octets : List ℕ) → KeepsWhatCame w
+outside_came : (w : LabelledNetwork) (subnet : ℕ) (sender : List ℕ) (target : Target) (octets : List ℕ) → KeepsWhatCame w
     → KeepsWhatCame (with_outside w subnet sender target octets)
 outside_came w subnet sender target octets k =
     systems_later w.copies (copy_from_outside (length w.copies + 1) w.clock subnet sender target octets ∷ []) w.systems k
@@ -149,7 +148,7 @@ IsSpelled (Labelled packet following) = Unit {0}
 IsSpelled (Esis value following) = Unit {0}
 IsSpelled (Unlabelled octets) = ⊥
 
-abbrev AreSpelled : World → Type 0
+abbrev AreSpelled : LabelledNetwork → Type 0
 AreSpelled w = AllByRecursion (λ copy. IsSpelled copy.content) w.copies
 
 copy_spelled : (found : Option PortConfig) (target : Target) (maker : Maker) (birth : ℕ) (content : Content) → IsSpelled content
@@ -157,7 +156,7 @@ copy_spelled : (found : Option PortConfig) (target : Target) (maker : Maker) (bi
 copy_spelled None target maker birth content is = tt
 copy_spelled (Some port) target maker birth content is = (is, tt)
 
-frame_spelled : (system : SystemState) (v : World) (port : ℕ) (target : Target) (maker : Maker) (birth : ℕ) (content : Content) → IsSpelled content → AreSpelled v
+frame_spelled : (system : SystemState) (v : LabelledNetwork) (port : ℕ) (target : Target) (maker : Maker) (birth : ℕ) (content : Content) → IsSpelled content → AreSpelled v
     → Keeps AreSpelled AnyLine (sends_frame system v port target maker birth content)
 frame_spelled system v port target maker birth content is k = record {
   world = AllByRecursion-append (λ (copy : Copy). IsSpelled copy.content) v.copies
@@ -166,16 +165,16 @@ frame_spelled system v port target maker birth content is k = record {
   lines = (tt, tt);
 }
 
-output_spelled : (system : SystemState) (output : Output) (v : World) → AreSpelled v → Keeps AreSpelled AnyLine (put_out system v output)
+output_spelled : (system : SystemState) (output : Output) (v : LabelledNetwork) → AreSpelled v → Keeps AreSpelled AnyLine (put_out system v output)
 output_spelled system (Notes note) v k = record { world = k; lines = (tt, tt) }
 output_spelled system (Transmits port target packet) v k =
     frame_spelled system v port target packet.unit.maker packet.unit.made (Labelled packet []) tt k
 output_spelled system (SendsEsis port target value) v k = frame_spelled system v port target (DeclaredAt system.place) system.moment (Esis value []) tt k
 
-effect_spelled : (w : World) (place : ℕ) (effect : Effect) → AreSpelled w → AreSpelled (takes_effect w place effect).world
+effect_spelled : (w : LabelledNetwork) (place : ℕ) (effect : Effect) → AreSpelled w → AreSpelled (takes_effect w place effect).world
 effect_spelled w place effect k =
     (keeps-put_all_out AreSpelled AnyLine effect.after effect.outputs
-    (AllByRecursion-any (λ output. (v : World) → AreSpelled v → Keeps AreSpelled AnyLine (put_out effect.after v output)) (output_spelled effect.after)
+    (AllByRecursion-any (λ output. (v : LabelledNetwork) → AreSpelled v → Keeps AreSpelled AnyLine (put_out effect.after v output)) (output_spelled effect.after)
     effect.outputs)
     (with_effect w place effect) k).world
 
@@ -184,7 +183,7 @@ content_spells port sender to_group (Labelled p following) is = tt
 content_spells port sender to_group (Esis value following) is = tt
 content_spells port sender to_group (Unlabelled octets) is = is
 
-report_later : (copies more : List Copy) (u : unit.Unit) → (u.kind ≡ Er → ReportsOnCopy copies u) → u.kind ≡ Er → ReportsOnCopy (copies ++ more) u
+report_later : (copies more : List Copy) (u : DataUnit) → (u.kind ≡ Er → ReportsOnCopy copies u) → u.kind ≡ Er → ReportsOnCopy (copies ++ more) u
 report_later copies more u h er =
     let it = h er in
     record {
@@ -195,12 +194,12 @@ report_later copies more u h er =
       source = it.source;
     }
 
-abbrev Reports : List Copy → List unit.Unit → Type 0
-Reports copies units = AllByRecursion (λ (u : unit.Unit). u.kind ≡ Er → ReportsOnCopy copies u) units
+abbrev Reports : List Copy → List DataUnit → Type 0
+Reports copies units = AllByRecursion (λ (u : DataUnit). u.kind ≡ Er → ReportsOnCopy copies u) units
 
-reports_later : (copies more : List Copy) (units : List unit.Unit) → Reports copies units → Reports (copies ++ more) units
+reports_later : (copies more : List Copy) (units : List DataUnit) → Reports copies units → Reports (copies ++ more) units
 reports_later copies more units h =
-    AllByRecursion-implies (λ (u : unit.Unit). u.kind ≡ Er → ReportsOnCopy copies u) (λ (u : unit.Unit). u.kind ≡ Er → ReportsOnCopy (copies ++ more) u)
+    AllByRecursion-implies (λ (u : DataUnit). u.kind ≡ Er → ReportsOnCopy copies u) (λ (u : DataUnit). u.kind ≡ Er → ReportsOnCopy (copies ++ more) u)
     (report_later copies more) units h
 
 -- a packet stands in one of some copies, whatever follows it there
@@ -214,7 +213,7 @@ kept_stands copies s p came there =
     (AllByRecursion-mapped (CameInCopy copies) (StandsSomehow copies) (λ (arrival : Arrival Packet). arrival.carried) (segments_in s.buffers)
     (λ arrival h. (h.following, h.stands)) came)
 
-at_hand_stands : (w : World) (s : SystemState) (input : Input) (p : Packet) → ComesStanding w input → Came w.copies s → IsAtHand s input p → StandsSomehow w.copies p
+at_hand_stands : (w : LabelledNetwork) (s : SystemState) (input : Input) (p : Packet) → ComesStanding w input → Came w.copies s → IsAtHand s input p → StandsSomehow w.copies p
 at_hand_stands w s (FrameComes port sender to_group (Labelled came following)) p stands kept (inl same) =
     (following, subst (λ (q : Packet). StandsInCopy w.copies q following) (sym same) stands)
 at_hand_stands w s (FrameComes port sender to_group (Labelled came following)) p stands kept (inr there) = kept_stands w.copies s p kept there
@@ -222,7 +221,7 @@ at_hand_stands w s (FrameComes port sender to_group (Esis value following)) p st
 at_hand_stands w s (FrameComes port sender to_group (Unlabelled octets)) p stands kept there = kept_stands w.copies s p kept there
 at_hand_stands w s _ p stands kept there = kept_stands w.copies s p kept there
 
-report_stands : (w : World) (s : SystemState) (input : Input) → ComesStanding w input → Came w.copies s → (u : unit.Unit) → ReportsOn s input u → u.kind ≡ Er
+report_stands : (w : LabelledNetwork) (s : SystemState) (input : Input) → ComesStanding w input → Came w.copies s → (u : DataUnit) → ReportsOn s input u → u.kind ≡ Er
     → ReportsOnCopy w.copies u
 report_stands w s input stands kept u on er =
     let it = on er in
@@ -236,14 +235,14 @@ report_stands w s input stands kept u on er =
     }
 
 -- what holds of a network without frames from outside
-pub record AllStands (plan : Plan) (w : World) : Type 0 where
+pub record AllStands (plan : Plan) (w : LabelledNetwork) : Type 0 where
   pub carried : AllIsCarried plan w
   pub came : KeepsWhatCame w
   pub spelled : AreSpelled w
   pub reports : ReportsStand w
 
 -- what comes there
-record ComesSoundly (w : World) (input : Input) : Type 0 where
+record ComesSoundly (w : LabelledNetwork) (input : Input) : Type 0 where
   fairly : ComesFairly w.units input
   standing : ComesStanding w input
   spells : SpellsPdus input
@@ -253,21 +252,21 @@ abbrev NoFrame : List ℕ → List ℕ → Type 0
 NoFrame sender octets = ⊥
 
 module _ (laws : StepLaws) (plan : Plan) (fit : IsFit plan) where
-  step_stands : (w : World) (place : ℕ) (s : SystemState) (input : Input) → slice_get w.systems place ≡ Some s → ComesSoundly w input → IsOfNow w s input
+  step_stands : (w : LabelledNetwork) (place : ℕ) (s : SystemState) (input : Input) → slice_get w.systems place ≡ Some s → ComesSoundly w input → IsOfNow w s input
       → AllStands plan w → Keeps (AllStands plan) AnyLine (takes_effect w place (step s input))
   step_stands w place s input there comes at k =
       let effect : Effect = step s input in
-      let later : World = (takes_effect w place effect).world in
+      let later : LabelledNetwork = (takes_effect w place effect).world in
       let more = effect_copies w place effect in
       let carried = step_is_carried laws plan fit w place s input there comes.fairly at k.carried in
       let came = step_came laws w place s input there comes.standing at k.came in
       let it : Came w.copies s = AllByRecursion-slice_get (Came w.copies) w.systems place s there k.came in
       let kept = (k.carried.each place s there).kept in
       let new : Reports w.copies effect.units =
-      AllByRecursion-implies (ReportsOn s input) (λ (u : unit.Unit). u.kind ≡ Er → ReportsOnCopy w.copies u) (report_stands w s input comes.standing it)
+      AllByRecursion-implies (ReportsOn s input) (λ (u : DataUnit). u.kind ≡ Er → ReportsOnCopy w.copies u) (report_stands w s input comes.standing it)
       effect.units (laws.steps.reports s input comes.fairly.0 comes.spells kept) in
       let all : Reports w.copies (w.units ++ effect.units) =
-      AllByRecursion-append (λ (u : unit.Unit). u.kind ≡ Er → ReportsOnCopy w.copies u) w.units effect.units k.reports new in
+      AllByRecursion-append (λ (u : DataUnit). u.kind ≡ Er → ReportsOnCopy w.copies u) w.units effect.units k.reports new in
       record {
         world = record {
           carried = carried.world;
@@ -280,7 +279,7 @@ module _ (laws : StepLaws) (plan : Plan) (fit : IsFit plan) where
         lines = carried.lines;
       }
 
-  frame_comes_soundly : (w : World) (at : ℕ) (copy : Copy) → slice_get w.copies at ≡ Some copy → AllStands plan w → (v : World) → Follows w v
+  frame_comes_soundly : (w : LabelledNetwork) (at : ℕ) (copy : Copy) → slice_get w.copies at ≡ Some copy → AllStands plan w → (v : LabelledNetwork) → Follows w v
       → (s : SystemState) → ComesSoundly v (frame_to s copy)
   frame_comes_soundly w at copy e k v follows s = record {
     fairly = frame_comes_fairly laws plan fit w at copy e k.carried v follows s;
@@ -331,7 +330,7 @@ module _ (laws : StepLaws) (plan : Plan) (fit : IsFit plan) where
     changing = changing;
   }
 
-  event_gives : (w : World) (event : Event) → IsFitEvent plan event → InjectsNothing event → GivesOnly (ComesSoundly w) NoFrame event
+  event_gives : (w : LabelledNetwork) (event : Event) → IsFitEvent plan event → InjectsNothing event → GivesOnly (ComesSoundly w) NoFrame event
   event_gives w (Send system from to body ask) is closed = record { fairly = ((is.formed, is.fair), tt, tt); standing = tt; spells = tt }
   event_gives w (Echo system from to body) is closed = record { fairly = ((is.formed.0, is.formed.1), tt, tt); standing = tt; spells = tt }
   event_gives w (Inject subnet from to octets) is closed = absurd closed
@@ -342,18 +341,18 @@ module _ (laws : StepLaws) (plan : Plan) (fit : IsFit plan) where
   event_gives w _ is closed = tt
 
   module _ (closed : IsClosed plan) where
-    events_give : (w : World) → AllByRecursion (GivesOnly (ComesSoundly w) NoFrame) plan.events
+    events_give : (w : LabelledNetwork) → AllByRecursion (GivesOnly (ComesSoundly w) NoFrame) plan.events
     events_give w =
         AllByRecursion-both (IsFitEvent plan) InjectsNothing (GivesOnly (ComesSoundly w) NoFrame) (event_gives w) plan.events (fit_events plan fit) closed
 
     module _ (P : Note → Type 0) (notes : (s : SystemState) (input : Input) → SpellsPdus input → AllByRecursion (NotesOnly P) (step s input).outputs)
         (changing : ChangingIsFine (LineIs (λ name. P))) where
-      move_keeps : (w : World) (move : Move) → AllStands plan w → Keeps (AllStands plan) (LineIs (λ name. P)) (after plan w move)
+      move_keeps : (w : LabelledNetwork) (move : Move) → AllStands plan w → Keeps (AllStands plan) (LineIs (λ name. P)) (after plan w move)
       move_keeps w move k =
           keeps-move ComesSoundly NoFrame (AllStands plan) (LineIs (λ name. P)) (each_stands P notes changing) plan events_give w move k
 
       -- so are the lines of whatever moves
-      pub moves_note : (moves : List Move) (w : World) → AllStands plan w
+      pub moves_note : (moves : List Move) (w : LabelledNetwork) → AllStands plan w
           → AllByRecursion (λ (entry : Entry). AllByRecursion (LineIs (λ name. P)) entry.lines) (entries_of plan w moves)
       moves_note [] w k = tt
       moves_note (move ∷ moves) w k =
@@ -368,7 +367,7 @@ module _ (laws : StepLaws) (plan : Plan) (fit : IsFit plan) where
     any_notes s (SendsEsis port target value) = tt
     any_notes s (Notes note) = tt
 
-    pub move_stands : (w : World) (move : Move) → AllStands plan w → AllStands plan (after plan w move).world
+    pub move_stands : (w : LabelledNetwork) (move : Move) → AllStands plan w → AllStands plan (after plan w move).world
     move_stands w move k =
         (move_keeps AnyNote (λ s input spells. AllByRecursion-any (NotesOnly AnyNote) (any_notes s) (step s input).outputs)
         (record {
@@ -390,6 +389,6 @@ module _ (laws : StepLaws) (plan : Plan) (fit : IsFit plan) where
     pub all_stands : (moves : List Move) → AllStands plan (world_after plan (first_world plan) moves)
     all_stands moves = go moves (first_world plan) first_stands
       where
-        go : (moves : List Move) (w : World) → AllStands plan w → AllStands plan (world_after plan w moves)
+        go : (moves : List Move) (w : LabelledNetwork) → AllStands plan w → AllStands plan (world_after plan w moves)
         go [] w k = k
         go (move ∷ moves) w k = go moves (after plan w move).world (move_stands w move k)

@@ -17,16 +17,16 @@ use Rattle.clnp_network.specs.Scenario.Scenario.{Subnetwork}
 use Rattle.clnp_machine.specs.Change.{Change, PortIsAt, PortTakes, RouteIsGone, RouteIsSet}
 use Rattle.clnp_machine.specs.System.{SystemState, Input, IsChanged, Output}
 use Rattle.clnp_machine.specs.Step.{step}
-use Rattle.clnp_network.specs.World.{World, Copy, Numbered, Step, nothing, writes, followed_by, put_out, put_all_out, takes_effect, comes, comes_to, asks_role, asks_system, asks, first_port, frame_to, hand_to, is_late, give_to, give, give_each, for_nobody, settle_for, is_void, is_addressee, deliver_to, deliver_at, deliver, copy_from_outside, injects_on, injects, tells_of, ports_of, moved, moves_port_to, moves_port_of, moves_port_on, moves_port, sets_route_as, sets_route_of, sets_route, removes_route_as, removes_route_of, removes_route, resizes_port_of, resizes_port, resizes_ports, resizes_at, resizes_each, resizes_on, resizes}
+use Rattle.clnp_network.specs.LabelledNetwork.{LabelledNetwork, Copy, Numbered, Step, nothing, writes, followed_by, put_out, put_all_out, takes_effect, comes, comes_to, asks_role, asks_system, asks, first_port, frame_to, hand_to, is_late, give_to, give, give_each, for_nobody, settle_for, is_void, is_addressee, deliver_to, deliver_at, deliver, copy_from_outside, injects_on, injects, tells_of, ports_of, moved, moves_port_to, moves_port_of, moves_port_on, moves_port, sets_route_as, sets_route_of, sets_route, removes_route_as, removes_route_of, removes_route, resizes_port_of, resizes_port, resizes_ports, resizes_at, resizes_each, resizes_on, resizes}
 use Rattle.std.specs.List.{AllByRecursion, list_any, range_with_len}
 use Rattle.clnp_machine.proofs.ClnpBase.Choices.{one_of}
 
 -- K holds of the world after a step, and Q of each of its lines
-pub record Keeps (K : World → Type 0) (Q : Line → Type 0) (taken : Step) : Type 0 where
+pub record Keeps (K : LabelledNetwork → Type 0) (Q : Line → Type 0) (taken : Step) : Type 0 where
   pub world : K taken.world
   pub lines : AllByRecursion Q taken.lines
 
-pub keeps-map : (K J : World → Type 0) (Q : Line → Type 0) (taken : Step) → ((w : World) → K w → J w) → Keeps K Q taken → Keeps J Q taken
+pub keeps-map : (K J : LabelledNetwork → Type 0) (Q : Line → Type 0) (taken : Step) → ((w : LabelledNetwork) → K w → J w) → Keeps K Q taken → Keeps J Q taken
 keeps-map K J Q taken f h = record { world = f taken.world h.world; lines = h.lines }
 
 -- the lines of copies that are given, and of those that aren't, are fine
@@ -45,7 +45,7 @@ pub record ChangingIsFine (Q : Line → Type 0) : Type 0 where
   pub resized : (now : ℕ) (subnet : List ℕ) (mtu : ℕ) → Q (Resized now subnet mtu)
 
 -- a world with one more copy, of octets from outside
-abbrev pub with_outside : World → (subnet : ℕ) (sender : List ℕ) → Target → (octets : List ℕ) → World
+abbrev pub with_outside : LabelledNetwork → (subnet : ℕ) (sender : List ℕ) → Target → (octets : List ℕ) → LabelledNetwork
 with_outside w subnet sender target octets =
     record w { copies = w.copies ++ copy_from_outside (length w.copies + 1) w.clock subnet sender target octets ∷ [] }
 
@@ -53,12 +53,12 @@ with_outside w subnet sender target octets =
 abbrev pub InjectedIsFine : (Line → Type 0) → Type 0
 InjectedIsFine Q = (now copy : ℕ) (subnet sender : List ℕ) (target : Target) → Q (Injected now copy subnet sender target)
 
-module _ (K : World → Type 0) (Q : Line → Type 0) where
-  pub keeps-nothing : (w : World) → K w → Keeps K Q (nothing w)
+module _ (K : LabelledNetwork → Type 0) (Q : Line → Type 0) where
+  pub keeps-nothing : (w : LabelledNetwork) → K w → Keeps K Q (nothing w)
   keeps-nothing w h = record { world = h; lines = tt }
 
   -- of the world between the parts J holds
-  pub keeps-followed_by : (J : World → Type 0) (first : Step) (next : World → Step) → Keeps J Q first → ((v : World) → J v → Keeps K Q (next v))
+  pub keeps-followed_by : (J : LabelledNetwork → Type 0) (first : Step) (next : LabelledNetwork → Step) → Keeps J Q first → ((v : LabelledNetwork) → J v → Keeps K Q (next v))
       → Keeps K Q (followed_by first next)
   keeps-followed_by J first next h k = record {
     world = (k first.world h.world).world;
@@ -66,31 +66,31 @@ module _ (K : World → Type 0) (Q : Line → Type 0) where
   }
 
   pub keeps-put_all_out : (system : SystemState) (outputs : List Output)
-      → AllByRecursion (λ output. (v : World) → K v → Keeps K Q (put_out system v output)) outputs → (w : World) → K w
+      → AllByRecursion (λ output. (v : LabelledNetwork) → K v → Keeps K Q (put_out system v output)) outputs → (w : LabelledNetwork) → K w
       → Keeps K Q (put_all_out system w outputs)
   keeps-put_all_out system [] h w k = keeps-nothing w k
   keeps-put_all_out system (output ∷ outputs) h w k =
       keeps-followed_by K (put_out system w output) (λ v. put_all_out system v outputs) (h.0 w k) (keeps-put_all_out system outputs h.1)
 
-  pub keeps-comes_to : (w : World) (place : ℕ) (input : Input) (found : Option SystemState) → (found ≡ None → K w)
+  pub keeps-comes_to : (w : LabelledNetwork) (place : ℕ) (input : Input) (found : Option SystemState) → (found ≡ None → K w)
       → ((s : SystemState) → found ≡ Some s → Keeps K Q (takes_effect w place (step s input))) → Keeps K Q (comes_to w place input found)
   keeps-comes_to w place input None h k = keeps-nothing w (h refl)
   keeps-comes_to w place input (Some s) h k = k s refl
 
   -- nobody asks a router
-  keeps-asks_role : (role : Role) (w : World) (place : ℕ) (asked : Input) → K w → Keeps K Q (comes w place asked) → Keeps K Q (asks_role role w place asked)
+  keeps-asks_role : (role : Role) (w : LabelledNetwork) (place : ℕ) (asked : Input) → K w → Keeps K Q (comes w place asked) → Keeps K Q (asks_role role w place asked)
   keeps-asks_role Host w place asked k h = h
   keeps-asks_role Router w place asked k h = keeps-nothing w k
 
-  keeps-asks_system : (w : World) (place : ℕ) (asked : Input) (found : Option SystemState) → K w → Keeps K Q (comes w place asked)
+  keeps-asks_system : (w : LabelledNetwork) (place : ℕ) (asked : Input) (found : Option SystemState) → K w → Keeps K Q (comes w place asked)
       → Keeps K Q (asks_system w place asked found)
   keeps-asks_system w place asked None k h = keeps-nothing w k
   keeps-asks_system w place asked (Some system) k h = keeps-asks_role system.configuration.role w place asked k h
 
-  pub keeps-asks : (w : World) (place : ℕ) (asked : Input) → K w → Keeps K Q (comes w place asked) → Keeps K Q (asks w place asked)
+  pub keeps-asks : (w : LabelledNetwork) (place : ℕ) (asked : Input) → K w → Keeps K Q (comes w place asked) → Keeps K Q (asks w place asked)
   keeps-asks w place asked k h = keeps-asks_system w place asked (slice_get w.systems place) k h
 
-  module _ (w : World) (subnet : ℕ) (sender : List ℕ) (target : Target) (octets : List ℕ) (k : K w) (more : K (with_outside w subnet sender target octets))
+  module _ (w : LabelledNetwork) (subnet : ℕ) (sender : List ℕ) (target : Target) (octets : List ℕ) (k : K w) (more : K (with_outside w subnet sender target octets))
       (fine : InjectedIsFine Q) where
     keeps-injects_on : (found : Option Subnetwork) → Keeps K Q (injects_on w subnet found sender target octets)
     keeps-injects_on None = keeps-nothing w k
@@ -101,27 +101,27 @@ module _ (K : World → Type 0) (Q : Line → Type 0) where
 
   module _ (fine : GivingIsFine Q) (limits : Limits) (given : Numbered) where
     -- the system takes in the copy that is given to it
-    abbrev Takes : World → ℕ → Type 0
+    abbrev Takes : LabelledNetwork → ℕ → Type 0
     Takes w place =
         (s : SystemState) → slice_get w.systems place ≡ Some s → is_late limits w given.copy ≡ false
         → Keeps K Q (takes_effect w place (step s (frame_to s given.copy)))
 
-    keeps-late : (w : World) (place : ℕ) (s : SystemState) (late : Bool) → K w → (late ≡ false → Keeps K Q (takes_effect w place (step s (frame_to s given.copy))))
+    keeps-late : (w : LabelledNetwork) (place : ℕ) (s : SystemState) (late : Bool) → K w → (late ≡ false → Keeps K Q (takes_effect w place (step s (frame_to s given.copy))))
         → Keeps K Q (if late then writes w (Late s.moment s.configuration.name given.number) else hand_to given w place s)
     keeps-late w place s true h k = record { world = h; lines = (fine.late s.moment s.configuration.name given.number, tt) }
     keeps-late w place s false h k =
         let port = first_port given.copy s.configuration.role s.attached.ports in
         record { world = (k refl).world; lines = (fine.received s.moment s.configuration.name given.number port, (k refl).lines) }
 
-    keeps-give_to : (w : World) (place : ℕ) (found : Option SystemState) → slice_get w.systems place ≡ found → K w → Takes w place
+    keeps-give_to : (w : LabelledNetwork) (place : ℕ) (found : Option SystemState) → slice_get w.systems place ≡ found → K w → Takes w place
         → Keeps K Q (give_to limits given w place found)
     keeps-give_to w place None e h k = keeps-nothing w h
     keeps-give_to w place (Some s) e h k = keeps-late w place s (is_late limits w given.copy) h (k s e)
 
-    pub keeps-give : (w : World) (place : ℕ) → K w → Takes w place → Keeps K Q (give limits given w place)
+    pub keeps-give : (w : LabelledNetwork) (place : ℕ) → K w → Takes w place → Keeps K Q (give limits given w place)
     keeps-give w place h k = keeps-give_to w place (slice_get w.systems place) refl h k
 
-    pub keeps-give_each : (places : List ℕ) → ((v : World) (place : ℕ) → K v → Takes v place) → (w : World) → K w → Keeps K Q (give_each limits given w places)
+    pub keeps-give_each : (places : List ℕ) → ((v : LabelledNetwork) (place : ℕ) → K v → Takes v place) → (w : LabelledNetwork) → K w → Keeps K Q (give_each limits given w places)
     keeps-give_each [] h w k = keeps-nothing w k
     keeps-give_each (place ∷ places) h w k =
         keeps-followed_by K (give limits given w place) (λ v. give_each limits given v places) (keeps-give w place k (h w place k)) (keeps-give_each places h)
@@ -130,7 +130,7 @@ module _ (K : World → Type 0) (Q : Line → Type 0) where
     keeps-nobody now number [] = (fine.nobody now number, tt)
     keeps-nobody now number (place ∷ places) = tt
 
-    pub keeps-settle_for : (w : World) (places : List ℕ) → Keeps K Q (give_each limits given w places) → Keeps K Q (settle_for limits given w places)
+    pub keeps-settle_for : (w : LabelledNetwork) (places : List ℕ) → Keeps K Q (give_each limits given w places) → Keeps K Q (settle_for limits given w places)
     keeps-settle_for w places h = record {
       world = h.world;
       lines = AllByRecursion-append Q (for_nobody w.clock given.number places) (give_each limits given w places).lines
@@ -139,17 +139,17 @@ module _ (K : World → Type 0) (Q : Line → Type 0) where
 
   module _ (fine : GivingIsFine Q) (limits : Limits) where
     -- the system takes in the copy with a number, if there is one
-    abbrev TakesNumbered : World → ℕ → ℕ → Type 0
+    abbrev TakesNumbered : LabelledNetwork → ℕ → ℕ → Type 0
     TakesNumbered w number place =
         (copy : Copy) → slice_get w.copies (number - 1) ≡ Some copy → Takes fine limits (record { number = number; copy = copy }) w place
 
-    keeps-is_void : (w : World) (number : ℕ) (system : SystemState) → K w → Keeps K Q (is_void w system number)
+    keeps-is_void : (w : LabelledNetwork) (number : ℕ) (system : SystemState) → K w → Keeps K Q (is_void w system number)
     keeps-is_void w number system h = record { world = h; lines = (fine.void system.moment system.configuration.name number, tt) }
 
     keeps-one_of : (given void : Step) (is_for : Bool) → Keeps K Q given → Keeps K Q void → Keeps K Q (if is_for then given else void)
     keeps-one_of given void is_for g v = one_of (Keeps K Q) is_for given void g v
 
-    keeps-deliver_to : (w : World) (number place : ℕ) (found : Option Copy) (system : SystemState) → K w
+    keeps-deliver_to : (w : LabelledNetwork) (number place : ℕ) (found : Option Copy) (system : SystemState) → K w
         → ((copy : Copy) → found ≡ Some copy → Takes fine limits (record { number = number; copy = copy }) w place)
         → Keeps K Q (deliver_to limits w number place found system)
     keeps-deliver_to w number place None system h k = keeps-is_void w number system h
@@ -157,23 +157,23 @@ module _ (K : World → Type 0) (Q : Line → Type 0) where
         keeps-one_of (give limits (record { number = number; copy = copy }) w place) (is_void w system number) (is_addressee copy system)
         (keeps-give fine limits (record { number = number; copy = copy }) w place h (k copy refl)) (keeps-is_void w number system h)
 
-    keeps-deliver_at : (w : World) (number place : ℕ) (found : Option SystemState) → K w → TakesNumbered w number place
+    keeps-deliver_at : (w : LabelledNetwork) (number place : ℕ) (found : Option SystemState) → K w → TakesNumbered w number place
         → Keeps K Q (deliver_at limits w number place found)
     keeps-deliver_at w number place None h k = keeps-nothing w h
     keeps-deliver_at w number place (Some system) h k = keeps-deliver_to w number place (slice_get w.copies (number - 1)) system h k
 
-    pub keeps-deliver : (w : World) (number place : ℕ) → K w → TakesNumbered w number place → Keeps K Q (deliver limits w number place)
+    pub keeps-deliver : (w : LabelledNetwork) (number place : ℕ) → K w → TakesNumbered w number place → Keeps K Q (deliver limits w number place)
     keeps-deliver w number place h k = keeps-deliver_at w number place (slice_get w.systems place) h k
 
   module _ (fine : ChangingIsFine Q) where
     -- a change of a system comes to it, and a line tells of it
-    keeps-told : (w : World) (place : ℕ) (system : SystemState) (change : Change) (told : Note)
+    keeps-told : (w : LabelledNetwork) (place : ℕ) (system : SystemState) (change : Change) (told : Note)
         → ((now : ℕ) → Q (Noted now system.configuration.name told)) → Keeps K Q (comes w place (IsChanged change))
         → Keeps K Q (followed_by (comes w place (IsChanged change)) (tells_of system told))
     keeps-told w place system change told tells h =
         keeps-followed_by K (comes w place (IsChanged change)) (tells_of system told) h (λ v k. record { world = k; lines = (tells system.moment, tt) })
 
-    module _ (w : World) (place : ℕ) (k : K w) where
+    module _ (w : LabelledNetwork) (place : ℕ) (k : K w) where
       module _ (number subnet : ℕ) (snpa : List ℕ) where
         -- the port that moves is one that is there, and takes frames as long as the subnetwork does
         abbrev Moves : Type 0
@@ -244,25 +244,25 @@ module _ (K : World → Type 0) (Q : Line → Type 0) where
         pub keeps-removes_route : Keeps K Q (removes_route w place prefix)
         keeps-removes_route = keeps-removes_route_of (slice_get w.systems place)
 
-    module _ (subnet mtu : ℕ) (takes : (v : World) (place number : ℕ) → K v → Keeps K Q (comes v place (IsChanged (PortTakes number mtu)))) where
-      keeps-resizes_port_of : (w : World) (place number : ℕ) (found : Option PortConfig) → K w → Keeps K Q (resizes_port_of w place number subnet mtu found)
+    module _ (subnet mtu : ℕ) (takes : (v : LabelledNetwork) (place number : ℕ) → K v → Keeps K Q (comes v place (IsChanged (PortTakes number mtu)))) where
+      keeps-resizes_port_of : (w : LabelledNetwork) (place number : ℕ) (found : Option PortConfig) → K w → Keeps K Q (resizes_port_of w place number subnet mtu found)
       keeps-resizes_port_of w place number None k = keeps-nothing w k
       keeps-resizes_port_of w place number (Some port) k =
           one_of (Keeps K Q) (port.subnet == subnet) (comes w place (IsChanged (PortTakes number mtu))) (nothing w) (takes w place number k) (keeps-nothing w k)
 
-      keeps-resizes_ports : (place : ℕ) (numbers : List ℕ) (w : World) → K w → Keeps K Q (resizes_ports w place subnet mtu numbers)
+      keeps-resizes_ports : (place : ℕ) (numbers : List ℕ) (w : LabelledNetwork) → K w → Keeps K Q (resizes_ports w place subnet mtu numbers)
       keeps-resizes_ports place [] w k = keeps-nothing w k
       keeps-resizes_ports place (number ∷ numbers) w k =
           keeps-followed_by K (resizes_port w place number subnet mtu) (λ v. resizes_ports v place subnet mtu numbers)
           (keeps-resizes_port_of w place number (slice_get (ports_of (slice_get w.systems place)) number) k) (keeps-resizes_ports place numbers)
 
-      keeps-resizes_each : (places : List ℕ) (w : World) → K w → Keeps K Q (resizes_each w subnet mtu places)
+      keeps-resizes_each : (places : List ℕ) (w : LabelledNetwork) → K w → Keeps K Q (resizes_each w subnet mtu places)
       keeps-resizes_each [] w k = keeps-nothing w k
       keeps-resizes_each (place ∷ places) w k =
           keeps-followed_by K (resizes_at w place subnet mtu) (λ v. resizes_each v subnet mtu places)
           (keeps-resizes_ports place (range_with_len 0 (length (ports_of (slice_get w.systems place)))) w k) (keeps-resizes_each places)
 
-      keeps-resizes_on : (w : World) (found : Option Subnetwork) → K w → K (record w { mtus = slice_set w.mtus subnet mtu })
+      keeps-resizes_on : (w : LabelledNetwork) (found : Option Subnetwork) → K w → K (record w { mtus = slice_set w.mtus subnet mtu })
           → Keeps K Q (resizes_on w subnet mtu found)
       keeps-resizes_on w None k later = keeps-nothing w k
       keeps-resizes_on w (Some declared) k later =
@@ -272,6 +272,6 @@ module _ (K : World → Type 0) (Q : Line → Type 0) where
           (λ v k. record { world = k; lines = (fine.resized v.clock declared.name mtu, tt) })
 
       -- each port on the subnetwork takes it, of one system after another
-      pub keeps-resizes : (subnets : List Subnetwork) (w : World) → K w → K (record w { mtus = slice_set w.mtus subnet mtu })
+      pub keeps-resizes : (subnets : List Subnetwork) (w : LabelledNetwork) → K w → K (record w { mtus = slice_set w.mtus subnet mtu })
           → Keeps K Q (resizes subnets w subnet mtu)
       keeps-resizes subnets w k later = keeps-resizes_on w (slice_get subnets subnet) k later

@@ -8,8 +8,7 @@ use Rattle.clnp_network.specs.Scenario.Scenario.{Plan}
 use Rattle.clnp_machine.specs.Reassembly.declared.segment.Key.{Key}
 use Rattle.clnp_machine.specs.Reassembly.Arrival.{same_key}
 use Rattle.clnp_machine.specs.Reassembly.Buffer.{Buffer, due, first_carried, held, is_whole, size_of, without}
-use Rattle.clnp_machine.specs.Unit as unit
-use Rattle.clnp_machine.specs.Unit.{Packet}
+use Rattle.clnp_machine.specs.Unit.{DataUnit, Packet}
 use Rattle.clnp_machine.specs.Content.{Labelled}
 use Rattle.clnp_machine.specs.ClnpOptions.Reasons.{reason_code}
 use Rattle.clnp_machine.specs.ClnpOptions.declared.reasons.Reason.TheVariants.{LifetimeExpiredInReassembly}
@@ -22,7 +21,7 @@ use Rattle.clnp_safety.proofs.Deeds.{IsReport, discard_reports, with_buffers}
 use Rattle.clnp_safety.proofs.Kept.{all_without, due_is, none_due}
 use Rattle.clnp_safety.proofs.Uses.{accounted_later, uses_later}
 
-module _ (laws : StepLaws) (plan : Plan) (units : List unit.Unit) (before place : ℕ) where
+module _ (laws : StepLaws) (plan : Plan) (units : List DataUnit) (before place : ℕ) where
   -- the system is sound but for the moment that has come, at which some of its buffers may be due
   abbrev WasSound : SystemState → Type 0
   WasSound s = SystemIsSound plan units place (at_moment before s)
@@ -70,7 +69,7 @@ module _ (laws : StepLaws) (plan : Plan) (units : List unit.Unit) (before place 
   expire_is_sound zero s few later was = none_left s later was (AllByRecursion-no_element (λ (b : Buffer Packet). s.moment < b.deadline) s.buffers few)
   expire_is_sound (suc most) s few later was = give_up_is_sound most s (due s.moment s.buffers) refl (omega arith) later was (expire_is_sound most)
 
-pub tick_is_sound : StepLaws → (plan : Plan) (units : List unit.Unit) (now place : ℕ) (s : SystemState) → SystemIsSound plan units place s → s.moment ≤ now
+pub tick_is_sound : StepLaws → (plan : Plan) (units : List DataUnit) (now place : ℕ) (s : SystemState) → SystemIsSound plan units place s → s.moment ≤ now
     → SystemIsSound plan units place (tick s now).after
 tick_is_sound laws plan units now place s sound later =
     expire_is_sound laws plan units s.moment place (length s.buffers) (at_moment now s) (omega arith) later sound

@@ -6,14 +6,14 @@ use Rattle.std.specs.List.{range_with_len}
 use Rattle.std.proofs.lemmas.Option.{same_Some}
 use Rattle.clnp_network.specs.Scenario.Scenario.{IsFit, Plan}
 use Rattle.clnp_machine.specs.ClnpPlan.Journal.{Line}
-use Rattle.clnp_machine.specs.Unit as unit
+use Rattle.clnp_machine.specs.Unit.{DataUnit}
 use Rattle.clnp_machine.specs.System.{SystemState, MomentComes, then_does}
 use Rattle.clnp_machine.specs.Local.{made_in, tick}
 use Rattle.clnp_machine.specs.Esis.{forgets, says_hello}
 use Rattle.clnp_machine.specs.Step.{effect_of, moment_comes, step}
 use Rattle.clnp_machine.specs.Told.{NoteIsQuiet, TellsOnly}
 use Rattle.clnp_network.specs.Run.{Entry}
-use Rattle.clnp_network.specs.World.{World, goes_on, takes_effect, tick_alone, tick_each, tick_one, tick_system}
+use Rattle.clnp_network.specs.LabelledNetwork.{LabelledNetwork, goes_on, takes_effect, tick_alone, tick_each, tick_one, tick_system}
 use Rattle.clnp_safety.specs.Invariant.{EachRests, SystemIsSound, WorldIsSound}
 use Rattle.clnp_safety.specs.StepLaws.{StepLaws}
 use Rattle.clnp_safety.proofs.Deeds.{IsHonest, quiet_action, reports_are_sound, reports_reply_nothing, reports_rest}
@@ -27,7 +27,7 @@ use Rattle.clnp_machine.proofs.Said.{says_known}
 use Rattle.clnp_safety.proofs.Honest.{NoteIsSteady}
 
 -- what comes of a moment
-moment_is_sound : StepLaws → (plan : Plan) (past : List Entry) (w : World) (name : List ℕ) (units : List unit.Unit) (now place : ℕ) (s : SystemState)
+moment_is_sound : StepLaws → (plan : Plan) (past : List Entry) (w : LabelledNetwork) (name : List ℕ) (units : List DataUnit) (now place : ℕ) (s : SystemState)
     → s.moment ≤ now → SystemIsSound plan units place s → EachRests plan.limits.reuse units → EffectIsSound plan past w name units place (moment_comes s now)
 moment_is_sound laws plan past w name units now place s later sound rest =
     let ticked = tick s now in
@@ -47,9 +47,9 @@ moment_is_sound laws plan past w name units now place s later sound rest =
     }))
     only (says_known ticked.after)
 
-module _ (laws : StepLaws) (plan : Plan) (fit : IsFit plan) (past : List Entry) (w : World) (h : WorldIsSound plan past w) where
+module _ (laws : StepLaws) (plan : Plan) (fit : IsFit plan) (past : List Entry) (w : LabelledNetwork) (h : WorldIsSound plan past w) where
   -- what the worlds of a tick keep
-  abbrev Sound : World → Type 0
+  abbrev Sound : LabelledNetwork → Type 0
   Sound = IsSoundSince plan past w
 
   -- what the lines are
@@ -57,7 +57,7 @@ module _ (laws : StepLaws) (plan : Plan) (fit : IsFit plan) (past : List Entry) 
   Told = LineIs (NoteIsSteady plan past w)
 
   -- a later moment comes to a system
-  system_ticks : (v : World) (place : ℕ) (s : SystemState) (now : ℕ) → slice_get v.systems place ≡ Some s → s.moment ≤ now → Sound v
+  system_ticks : (v : LabelledNetwork) (place : ℕ) (s : SystemState) (now : ℕ) → slice_get v.systems place ≡ Some s → s.moment ≤ now → Sound v
       → Keeps Sound Told (takes_effect v place (step s (MomentComes now)))
   system_ticks v place s now there later k =
       let it = k.stands.each place s there in
@@ -68,7 +68,7 @@ module _ (laws : StepLaws) (plan : Plan) (fit : IsFit plan) (past : List Entry) 
       (notes_are_steady laws plan fit past w s.configuration.name s (MomentComes now) done.notes tt) k
 
   -- the clock of the system at a place goes on
-  goes_on_soundly : (v : World) (place : ℕ) (found : Option SystemState) → slice_get v.systems place ≡ found → Sound v → Keeps Sound Told (goes_on v place found)
+  goes_on_soundly : (v : LabelledNetwork) (place : ℕ) (found : Option SystemState) → slice_get v.systems place ≡ found → Sound v → Keeps Sound Told (goes_on v place found)
   goes_on_soundly v place None e k = keeps-nothing Sound Told v k
   goes_on_soundly v place (Some s) e k =
       keeps-comes_to Sound Told v place (MomentComes (s.moment + 1)) (slice_get v.systems place) (λ none. k)
@@ -76,7 +76,7 @@ module _ (laws : StepLaws) (plan : Plan) (fit : IsFit plan) (past : List Entry) 
       let same : s.moment ≡ t.moment = ap (λ (u : SystemState). u.moment) (same_Some s t (sym e ∙ there)) in
       system_ticks v place t (s.moment + 1) there (omega arith) k)
 
-  each_ticks : (places : List ℕ) (v : World) → Sound v → Keeps Sound Told (tick_each v places)
+  each_ticks : (places : List ℕ) (v : LabelledNetwork) → Sound v → Keeps Sound Told (tick_each v places)
   each_ticks [] v k = keeps-nothing Sound Told v k
   each_ticks (place ∷ places) v k =
       keeps-followed_by Sound Told Sound (goes_on v place (slice_get v.systems place)) (λ u. tick_each u places)

@@ -7,7 +7,7 @@ use Rattle.clnp_machine.specs.ClnpPlan.declared.note.Note.TheVariants.{Gone, Hea
 use Rattle.clnp_machine.specs.System.{SystemState, Output, Transmits, SendsEsis, Notes}
 use Rattle.clnp_machine.specs.Local.{Action, Tells}
 use Rattle.clnp_machine.specs.Step.{outputs_of}
-use Rattle.clnp_machine.specs.Steps.{IsOfHellos, NotesOnly}
+use Rattle.clnp_machine.specs.EveryStep.{IsOfHellos, NotesOnly}
 use Rattle.clnp_machine.specs.Told.{IsToldBy, NoteIsQuiet, TellsOnly}
 use Rattle.clnp_safety.specs.StepLaws.{StepLaws}
 use Rattle.clnp_machine.proofs.Noted.{output_notes}

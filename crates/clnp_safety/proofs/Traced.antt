@@ -13,14 +13,13 @@ use Rattle.clnp_network.specs.Scenario.Scenario.{Plan}
 use Rattle.clnp_network.specs.Scenario.declared.event.Event.{Event}
 use Rattle.clnp_network.specs.Scenario.declared.event.Event.TheVariants.{Send, Echo, Inject, Mtu, Port}
 use Rattle.clnp_network.specs.Scenario.declared.event.Move.{Move}
-use Rattle.clnp_machine.specs.Unit as unit
-use Rattle.clnp_machine.specs.Unit.{Maker, DeclaredAt, Outside, Packet}
+use Rattle.clnp_machine.specs.Unit.{DataUnit, Maker, DeclaredAt, Outside, Packet}
 use Rattle.clnp_machine.specs.Content.{Content, Labelled, Esis, Unlabelled, esis_value_in, is_accepted, packet_from_outside, value_in}
 use Rattle.clnp_machine.specs.System.{SystemState, Input, FrameComes, Output, Transmits, SendsEsis, Notes, Effect}
 use Rattle.clnp_machine.specs.Step.{step}
-use Rattle.clnp_machine.specs.Steps.{GoesOnOf, IsFresh, SendsRangesOrGoesOn, moment_after}
+use Rattle.clnp_machine.specs.EveryStep.{GoesOnOf, IsFresh, SendsRangesOrGoesOn, moment_after}
 use Rattle.clnp_machine.proofs.Kept.{all_contained}
-use Rattle.clnp_network.specs.World.{World, Copy, copy_from, copy_from_outside, first_port, first_world, frame_to, is_group, put_out, sends_frame, takes_effect, with_effect}
+use Rattle.clnp_network.specs.LabelledNetwork.{LabelledNetwork, Copy, copy_from, copy_from_outside, first_port, first_world, frame_to, is_group, put_out, sends_frame, takes_effect, with_effect}
 use Rattle.clnp_network.specs.Run.{world_after}
 use Rattle.clnp_safety.specs.Outside.{CarriesOf, EachHasItsMaker, HasItsMaker, IsBrought, IsMadeBy, IsTraced}
 use Rattle.clnp_safety.specs.StepLaws.{StepLaws}
@@ -58,17 +57,17 @@ module _ (plan : Plan) where
 
   -- What comes.
 
-  abbrev ComesTraced : World → Input → Type 0
+  abbrev ComesTraced : LabelledNetwork → Input → Type 0
   ComesTraced w (FrameComes port sender to_group (Labelled came following)) = came.unit.maker ≡ Outside → IsTraced plan w.copies (Labelled came following)
   ComesTraced w _ = Unit {0}
 
-  content_traced : (w : World) (port : ℕ) (sender : List ℕ) (to_group : Bool) (maker : Maker) (content : Content) → IsMadeBy maker content
+  content_traced : (w : LabelledNetwork) (port : ℕ) (sender : List ℕ) (to_group : Bool) (maker : Maker) (content : Content) → IsMadeBy maker content
       → (maker ≡ Outside → IsTraced plan w.copies content) → ComesTraced w (FrameComes port sender to_group content)
   content_traced w port sender to_group maker (Labelled came following) by traced = λ outside. traced (by ∙ outside)
   content_traced w port sender to_group maker (Esis value following) by traced = tt
   content_traced w port sender to_group maker (Unlabelled octets) by traced = tt
 
-  frame_traced : (w : World) (at : ℕ) (copy : Copy) → slice_get w.copies at ≡ Some copy → EachHasItsMaker plan w → (v : World) → Follows w v
+  frame_traced : (w : LabelledNetwork) (at : ℕ) (copy : Copy) → slice_get w.copies at ≡ Some copy → EachHasItsMaker plan w → (v : LabelledNetwork) → Follows w v
       → (s : SystemState) → ComesTraced v (frame_to s copy)
   frame_traced w at copy e k v follows s =
       let it = AllByRecursion-slice_get (HasItsMaker plan w.copies) w.copies at copy e k in
@@ -82,10 +81,10 @@ module _ (plan : Plan) where
   SendsTraced copies (Transmits port target packet) = packet.unit.maker ≡ Outside → IsTraced plan copies (Labelled packet [])
   SendsTraced copies _ = Unit {0}
 
-  on_traced : (w : World) (s : SystemState) (port : ℕ) (input : Input) (p : Packet) → ComesTraced w input → GoesOnOf s port input p
+  on_traced : (w : LabelledNetwork) (s : SystemState) (port : ℕ) (input : Input) (p : Packet) → ComesTraced w input → GoesOnOf s port input p
       → p.unit.maker ≡ Outside → IsTraced plan w.copies (Labelled p [])
   on_traced w s port (FrameComes at sender to_group (Labelled came following)) p comes on outside =
-      let traced = comes (ap (λ (u : unit.Unit). u.maker) (sym on.unit) ∙ outside) in
+      let traced = comes (ap (λ (u : DataUnit). u.maker) (sym on.unit) ∙ outside) in
       record {
         first = traced.first;
         there = traced.there;
@@ -94,7 +93,7 @@ module _ (plan : Plan) where
       }
   on_traced w s port _ p comes on outside = absurd on
 
-  sends_traced : (w : World) (s : SystemState) (now : ℕ) (input : Input) (units : List unit.Unit) → AllByRecursion (IsFresh s now) units → ComesTraced w input
+  sends_traced : (w : LabelledNetwork) (s : SystemState) (now : ℕ) (input : Input) (units : List DataUnit) → AllByRecursion (IsFresh s now) units → ComesTraced w input
       → (output : Output) → SendsRangesOrGoesOn s input units output → SendsTraced w.copies output
   sends_traced w s now input units fresh comes (Notes note) h = tt
   sends_traced w s now input units fresh comes (SendsEsis port target value) h = tt
@@ -107,7 +106,7 @@ module _ (plan : Plan) where
 
   module _ (base : List Copy) where
     -- each copy has its maker, among some copies
-    abbrev Has : World → Type 0
+    abbrev Has : LabelledNetwork → Type 0
     Has v = AllByRecursion (HasItsMaker plan base) v.copies
 
     made_copy : (found : Option PortConfig) (target : Target) (maker : Maker) (birth : ℕ) (content : Content) → IsMadeBy maker content
@@ -115,7 +114,7 @@ module _ (plan : Plan) where
     made_copy None target maker birth content by traced = tt
     made_copy (Some port) target maker birth content by traced = (record { maker = by; outside = traced }, tt)
 
-    frame_has : (system : SystemState) (v : World) (port : ℕ) (target : Target) (maker : Maker) (birth : ℕ) (content : Content) → IsMadeBy maker content
+    frame_has : (system : SystemState) (v : LabelledNetwork) (port : ℕ) (target : Target) (maker : Maker) (birth : ℕ) (content : Content) → IsMadeBy maker content
         → (maker ≡ Outside → IsTraced plan base content) → Has v → Keeps Has AnyLine (sends_frame system v port target maker birth content)
     frame_has system v port target maker birth content by traced k = record {
       world = AllByRecursion-append (HasItsMaker plan base) v.copies (copy_from (slice_get system.attached.ports port) target maker birth content) k
@@ -123,7 +122,7 @@ module _ (plan : Plan) where
       lines = (tt, tt);
     }
 
-    output_has : (system : SystemState) (output : Output) → SendsTraced base output → (v : World) → Has v → Keeps Has AnyLine (put_out system v output)
+    output_has : (system : SystemState) (output : Output) → SendsTraced base output → (v : LabelledNetwork) → Has v → Keeps Has AnyLine (put_out system v output)
     output_has system (Notes note) sends v k = record { world = k; lines = (tt, tt) }
     output_has system (Transmits port target packet) sends v k =
         frame_has system v port target packet.unit.maker packet.unit.made (Labelled packet []) refl sends k
@@ -131,16 +130,16 @@ module _ (plan : Plan) where
         frame_has system v port target (DeclaredAt system.place) system.moment (Esis value []) tt
         (λ outside. let own : DeclaredAt system.place ≡ Outside = outside in absurd (cc)) k
 
-  step_traced : StepLaws → (w : World) (place : ℕ) (s : SystemState) (input : Input) → slice_get w.systems place ≡ Some s → ComesTraced w input
+  step_traced : StepLaws → (w : LabelledNetwork) (place : ℕ) (s : SystemState) (input : Input) → slice_get w.systems place ≡ Some s → ComesTraced w input
       → IsOfNow w s input → EachHasItsMaker plan w → Keeps (EachHasItsMaker plan) AnyLine (takes_effect w place (step s input))
   step_traced laws w place s input there comes at k =
       let effect : Effect = step s input in
-      let later : World = (takes_effect w place effect).world in
+      let later : LabelledNetwork = (takes_effect w place effect).world in
       let more = effect_copies w place effect in
       let sends = AllByRecursion-implies (SendsRangesOrGoesOn s input effect.units) (SendsTraced w.copies)
       (sends_traced w s (moment_after s input) input effect.units (laws.steps.fresh s input) comes) effect.outputs (laws.steps.ranges s input) in
       let done = keeps-put_all_out (Has w.copies) AnyLine effect.after effect.outputs
-      (AllByRecursion-implies (SendsTraced w.copies) (λ output. (v : World) → Has w.copies v → Keeps (Has w.copies) AnyLine (put_out effect.after v output))
+      (AllByRecursion-implies (SendsTraced w.copies) (λ output. (v : LabelledNetwork) → Has w.copies v → Keeps (Has w.copies) AnyLine (put_out effect.after v output))
       (output_has w.copies effect.after) effect.outputs sends)
       (with_effect w place effect) k in
       record {
@@ -156,7 +155,7 @@ module _ (plan : Plan) where
   carries_itself (Esis value following) = refl
   carries_itself (Unlabelled octets) = refl
 
-  outside_traced : (w : World) (subnet : ℕ) (sender : List ℕ) (target : Target) (octets : List ℕ) → IsBrought plan.events sender octets → EachHasItsMaker plan w
+  outside_traced : (w : LabelledNetwork) (subnet : ℕ) (sender : List ℕ) (target : Target) (octets : List ℕ) → IsBrought plan.events sender octets → EachHasItsMaker plan w
       → EachHasItsMaker plan (with_outside w subnet sender target octets)
   outside_traced w subnet sender target octets brought k =
       let new : Copy = copy_from_outside (length w.copies + 1) w.clock subnet sender target octets in
@@ -173,7 +172,7 @@ module _ (plan : Plan) where
         tt,
       )
 
-  event_gives : (w : World) (event : Event) → Contains plan.events event → GivesOnly (ComesTraced w) (IsBrought plan.events) event
+  event_gives : (w : LabelledNetwork) (event : Event) → Contains plan.events event → GivesOnly (ComesTraced w) (IsBrought plan.events) event
   event_gives w (Send system from to body ask) there = tt
   event_gives w (Echo system from to body) there = tt
   event_gives w (Inject subnet from to octets) there = record { subnet = subnet; target = to; there = there }

@@ -13,13 +13,12 @@ use Rattle.clnp_machine.specs.PduHeader.declared.kind.Kind.{Kind}
 use Rattle.clnp_machine.specs.PduHeader.declared.kind.Kind.TheVariants.{Dt, Er, Erq, Erp}
 use Rattle.clnp_machine.specs.Edited.{AreEdited}
 use Rattle.clnp_machine.proofs.Editing.{edited_again}
-use Rattle.clnp_machine.specs.Unit as unit
-use Rattle.clnp_machine.specs.Unit.{IsCarriable, Packet}
+use Rattle.clnp_machine.specs.Unit.{DataUnit, IsCarriable, Packet}
 use Rattle.clnp_machine.specs.Content.{Content, Labelled, Esis, Unlabelled}
 use Rattle.clnp_machine.specs.System.{SystemState}
-use Rattle.clnp_machine.specs.Steps.{GoesOnFrom, IsRangeOf}
+use Rattle.clnp_machine.specs.EveryStep.{GoesOnFrom, IsRangeOf}
 use Rattle.std.specs.List.{AllByRecursion}
-use Rattle.clnp_network.specs.World.{Copy}
+use Rattle.clnp_network.specs.LabelledNetwork.{Copy}
 use Rattle.clnp_network.specs.Safe.{Rests}
 use Rattle.clnp_network.specs.Run.{Entry}
 use Rattle.clnp_safety.specs.Invariant.{Owns, CopyIsSound, Carries, IsMadeOn, IsOfUnit, BufferIsSound, EachRests, UnitIsSound, UnitsAreSound}
@@ -27,7 +26,7 @@ use Rattle.clnp_safety.specs.StepLaws.{StepLaws}
 pub use Rattle.clnp_machine.proofs.Sent.{range_sooner, range_later}
 
 -- one of two units with a maker and an identifier rests behind the other
-pub same_unit : (reuse : ℕ) (units : List unit.Unit) (u v : unit.Unit) (i : ℕ) → EachRests reuse units → Contains units u → Contains units v
+pub same_unit : (reuse : ℕ) (units : List DataUnit) (u v : DataUnit) (i : ℕ) → EachRests reuse units → Contains units u → Contains units v
     → u.maker ≡ v.maker → u.identifier ≡ Some i → v.identifier ≡ Some i
     → (u ≡ v) ⊎ (u.made + reuse ≤ v.made) ⊎ (v.made + reuse ≤ u.made)
 same_unit reuse units u v i rests has_u has_v maker id_u id_v =
@@ -85,33 +84,33 @@ pub lives_within : (s : SystemState) (port : ℕ) (came p : Packet) → GoesOnFr
 lives_within s port came p on h =
     let hops = on.hops in
     let lost = on.lifetime in
-    let most : p.unit.lifetime ≡ came.unit.lifetime = ap (λ (u : unit.Unit). u.lifetime) on.unit in
+    let most : p.unit.lifetime ≡ came.unit.lifetime = ap (λ (u : DataUnit). u.lifetime) on.unit in
     let loss = le-max_left 1 on.port.transit in
     omega arith
 
-pub packet_goes_on : StepLaws → (units : List unit.Unit) (s : SystemState) (port : ℕ) (came p : Packet) → GoesOnFrom s port came p → IsRangeOf units came
+pub packet_goes_on : StepLaws → (units : List DataUnit) (s : SystemState) (port : ℕ) (came p : Packet) → GoesOnFrom s port came p → IsRangeOf units came
     → IsCarriable came → IsRangeOf units p
 packet_goes_on laws units s port came p on h carriable = record {
   unit = subst (Contains units) (sym on.unit) h.unit;
   options = laws.headers.chained p.options came.options p.unit.options (on.options carriable)
-      (subst (λ (u : unit.Unit). HaveOneForm came.options u.options) (sym on.unit) h.options);
-  edits = edited_again p.unit.options came.options p.options (subst (λ (u : unit.Unit). AreEdited u.options came.options) (sym on.unit) h.edits) on.edits;
+      (subst (λ (u : DataUnit). HaveOneForm came.options u.options) (sym on.unit) h.options);
+  edits = edited_again p.unit.options came.options p.options (subst (λ (u : DataUnit). AreEdited u.options came.options) (sym on.unit) h.edits) on.edits;
   lifetime = lives_within s port came p on h.lifetime;
   within =
       let from = on.from in
       let to = on.to in
       let within = h.within in
-      let octets : length p.unit.octets ≡ length came.unit.octets = ap (λ (u : unit.Unit). length u.octets) on.unit in
+      let octets : length p.unit.octets ≡ length came.unit.octets = ap (λ (u : DataUnit). length u.octets) on.unit in
       omega arith;
   whole = λ none.
       let same = on.whole none in
-      let all = h.whole (ap (λ (u : unit.Unit). u.identifier) (sym on.unit) ∙ none) in
-      (same.0 ∙ all.0, same.1 ∙ all.1 ∙ ap (λ (u : unit.Unit). length u.octets) (sym on.unit));
+      let all = h.whole (ap (λ (u : DataUnit). u.identifier) (sym on.unit) ∙ none) in
+      (same.0 ∙ all.0, same.1 ∙ all.1 ∙ ap (λ (u : DataUnit). length u.octets) (sym on.unit));
 }
 
 -- What is sound stays so as more units are made.
 
-module _ (units more : List unit.Unit) where
+module _ (units more : List DataUnit) where
   content_later : (content : Content) → Carries (IsRangeOf units) content → Carries (IsRangeOf (units ++ more)) content
   content_later (Labelled packet following) h = (range_sooner units more packet h.0, h.1)
   content_later (Esis value following) h = h
@@ -126,7 +125,7 @@ module _ (units more : List unit.Unit) where
     maker = h.maker;
   }
 
-  segment_later : (u : unit.Unit) (arrival : Arrival Packet) → IsOfUnit units u arrival → IsOfUnit (units ++ more) u arrival
+  segment_later : (u : DataUnit) (arrival : Arrival Packet) → IsOfUnit units u arrival → IsOfUnit (units ++ more) u arrival
   segment_later u arrival h = record { packet = range_sooner units more arrival.carried h.packet; carriable = h.carriable; unit = h.unit; offered = h.offered }
 
   pub buffer_later : (plan : Plan) (buffer : Buffer Packet) → BufferIsSound plan units buffer → BufferIsSound plan (units ++ more) buffer
@@ -143,8 +142,8 @@ module _ (units more : List unit.Unit) where
   }
 
 -- units stay founded and sound as units are made
-module _ (plan : Plan) (past : List Entry) (units more : List unit.Unit) where
-  founded_later : (kind : Kind) (u : unit.Unit) → IsMadeOn plan past units kind u → IsMadeOn plan past (units ++ more) kind u
+module _ (plan : Plan) (past : List Entry) (units more : List DataUnit) where
+  founded_later : (kind : Kind) (u : DataUnit) → IsMadeOn plan past units kind u → IsMadeOn plan past (units ++ more) kind u
   founded_later Dt u h = h
   founded_later Er u h = record {
     whole = h.whole;
@@ -156,7 +155,7 @@ module _ (plan : Plan) (past : List Entry) (units more : List unit.Unit) where
   founded_later Erq u h = h
   founded_later Erp u h = h
 
-  unit_more : (u : unit.Unit) → UnitIsSound plan past units u → UnitIsSound plan past (units ++ more) u
+  unit_more : (u : DataUnit) → UnitIsSound plan past units u → UnitIsSound plan past (units ++ more) u
   unit_more u h = record {
     founded = founded_later u.kind u h.founded;
     place = h.place;
@@ -177,7 +176,7 @@ module _ (plan : Plan) (past : List Entry) (units more : List unit.Unit) where
   }
 
 -- copies stay sound as units are made
-pub copies_later : (units more : List unit.Unit) (copies : List Copy) → AllByRecursion (CopyIsSound units) copies
+pub copies_later : (units more : List DataUnit) (copies : List Copy) → AllByRecursion (CopyIsSound units) copies
     → AllByRecursion (CopyIsSound (units ++ more)) copies
 copies_later units more copies h =
     AllByRecursion-implies (CopyIsSound units) (CopyIsSound (units ++ more)) (copy_later units more) copies h

@@ -7,7 +7,7 @@ use Rattle.std.proofs.lemmas.Bool.Decides.{nat_tests}
 use Rattle.std.proofs.lemmas.List.Elements.{All-from_recursion, recursion_from_All, All-push, Contains-append_left, Contains-push}
 use Rattle.std.proofs.lemmas.List.Quantifiers.{all_pairs_push}
 use Rattle.clnp_machine.specs.Identifiers.{Use, Identifiers, last_use, next, busy, not_drawn, after_use}
-use Rattle.clnp_machine.specs.Unit as unit
+use Rattle.clnp_machine.specs.Unit.{DataUnit}
 use Rattle.clnp_safety.specs.Invariant.{AreUsesUntil, IsAccounted, IsInUses}
 use Rattle.clnp_machine.proofs.Resting.{busy_rested, moment_for, moment_there, past_quiet}
 
@@ -59,7 +59,7 @@ rests_at now reuse identifier (first ∷ later) (suc place) given order within t
     (later_idle now reuse (last_use identifier later) (moment_for identifier first) idle)
 
 -- where an identifier may be drawn, the units that had it were made long ago
-pub made_long_ago : (now : ℕ) (ids : Identifiers) (u : unit.Unit) → AreUsesUntil now ids.uses → IsInUses ids u
+pub made_long_ago : (now : ℕ) (ids : Identifiers) (u : DataUnit) → AreUsesUntil now ids.uses → IsInUses ids u
     → u.identifier ≡ Some (next ids) → not_drawn now ids ≡ None → u.made + ids.reuse ≤ now
 made_long_ago now ids u uses used identified idle =
     let free = past_quiet now ids.quiet (busy now ids.reuse (last_use (next ids) ids.uses)) idle in
@@ -77,7 +77,7 @@ uses_later before now uses later are = record {
 }
 
 -- and so it is of units
-pub accounted_later : (before now : ℕ) (ids : Identifiers) (u : unit.Unit) → before ≤ now → IsAccounted before ids u → IsAccounted now ids u
+pub accounted_later : (before now : ℕ) (ids : Identifiers) (u : DataUnit) → before ≤ now → IsAccounted before ids u → IsAccounted now ids u
 accounted_later before now ids u later was = record { made = let made = was.made in omega arith; used = was.used }
 
 -- one more use, at this moment
@@ -91,7 +91,7 @@ uses_after now ids h =
       in_order = all_pairs_push InOrder ids.uses latest h.in_order (λ k d within. all k d within);
     }
 
-pub used_before : (now : ℕ) (ids : Identifiers) (u : unit.Unit) → IsInUses ids u → IsInUses (after_use now ids) u
+pub used_before : (now : ℕ) (ids : Identifiers) (u : DataUnit) → IsInUses ids u → IsInUses (after_use now ids) u
 used_before now ids u used identifier identified =
     let latest : Use = record { identifier = next ids; moment = now } in
     elim (used identifier identified) [
@@ -99,7 +99,7 @@ used_before now ids u used identifier identified =
       | inr before ↦ inr before
     ]
 
-pub used_now : (now : ℕ) (ids : Identifiers) (u : unit.Unit) → u.identifier ≡ Some (next ids) → u.made ≡ now → IsInUses (after_use now ids) u
+pub used_now : (now : ℕ) (ids : Identifiers) (u : DataUnit) → u.identifier ≡ Some (next ids) → u.made ≡ now → IsInUses (after_use now ids) u
 used_now now ids u drawn made identifier identified =
     let latest : Use = record { identifier = next ids; moment = now } in
     let same : Some (next ids) ≡ Some identifier = sym drawn ∙ identified in

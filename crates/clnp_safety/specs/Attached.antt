@@ -5,7 +5,7 @@ use Rattle.clnp_machine.specs.ClnpPlan.Configuration.{IsWithin}
 use Rattle.clnp_machine.specs.Attachment.{IsAttached}
 use Rattle.clnp_machine.specs.System.{SystemState}
 use Rattle.clnp_network.specs.Scenario.Scenario.{Plan}
-use Rattle.clnp_network.specs.World.{World}
+use Rattle.clnp_network.specs.LabelledNetwork.{LabelledNetwork}
 
 -- each subnetwork of a plan has an MTU of at least 512
 pub record AreItsMtus (plan : Plan) (mtus : List ℕ) : Type 0 where
@@ -19,6 +19,6 @@ pub record HasItsPorts (s : SystemState) : Type 0 where
   pub number : length s.attached.ports ≡ length s.configuration.ports
 
 -- so it is of all subnetworks and systems of a network
-pub record IsAttachedThroughout (plan : Plan) (w : World) : Type 0 where
+pub record IsAttachedThroughout (plan : Plan) (w : LabelledNetwork) : Type 0 where
   pub mtus : AreItsMtus plan w.mtus
   pub systems : AllByRecursion HasItsPorts w.systems

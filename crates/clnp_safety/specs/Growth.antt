@@ -3,18 +3,18 @@ use Rattle.std.specs.Prelude.{◌≡◌, ℕ, ◌-◌, ◌≤◌, true, List, �
 use Rattle.clnp_machine.specs.Nsap.declared.target.Target.{Target}
 use Rattle.clnp_machine.specs.ClnpPlan.Journal.{Line, Transmitted}
 use Rattle.clnp_machine.specs.Content.{frame_of}
-use Rattle.clnp_network.specs.World.{Copy, World, is_full, weight}
+use Rattle.clnp_network.specs.LabelledNetwork.{Copy, LabelledNetwork, is_full, weight}
 
 -- the first list is a front of the second
 abbrev pub IsFront : {A : Type 0} → List A → List A → Type 0
 IsFront {A} xs ys = (more : List A) × (ys ≡ xs ++ more)
 
 -- no more copies are settled than there are
-abbrev pub IsWithinCopies : World → Type 0
+abbrev pub IsWithinCopies : LabelledNetwork → Type 0
 IsWithinCopies w = w.cursor ≤ length w.copies
 
 -- the world is full, and weighs so much
-pub record IsFullAt (w : World) (weighs : ℕ) : Type 0 where
+pub record IsFullAt (w : LabelledNetwork) (weighs : ℕ) : Type 0 where
   pub full : is_full w ≡ true
   pub weight : weight w ≡ weighs
 

@@ -5,11 +5,10 @@ use Rattle.clnp_machine.specs.Nsap.declared.target.Target.{Target}
 use Rattle.clnp_network.specs.Scenario.Scenario.{Plan}
 use Rattle.clnp_network.specs.Scenario.declared.event.Event.{Event}
 use Rattle.clnp_network.specs.Scenario.declared.event.Event.TheVariants.{Inject}
-use Rattle.clnp_machine.specs.Unit as unit
-use Rattle.clnp_machine.specs.Unit.{Maker, Outside, Packet}
+use Rattle.clnp_machine.specs.Unit.{DataUnit, Maker, Outside, Packet}
 use Rattle.clnp_machine.specs.Content.{Content, Labelled, Esis, Unlabelled, content_of, frame_of}
-use Rattle.clnp_machine.specs.Steps.{BreaksNoEsisRule, BreaksNoRule}
-use Rattle.clnp_network.specs.World.{World, Copy}
+use Rattle.clnp_machine.specs.EveryStep.{BreaksNoEsisRule, BreaksNoRule}
+use Rattle.clnp_network.specs.LabelledNetwork.{LabelledNetwork, Copy}
 use Rattle.clnp_network.specs.Safe.{RangeIn}
 
 -- where a frame carries a packet it breaks no rule of PDUs, and where it carries an ES-IS value none of ES-IS PDUs
@@ -19,15 +18,15 @@ PduIsUnbroken (Esis value following) = BreaksNoEsisRule (frame_of (Esis value fo
 PduIsUnbroken (Unlabelled octets) = Unit {0}
 
 -- so it is of each frame on the network
-abbrev pub PdusAreUnbroken : World → Type 0
+abbrev pub PdusAreUnbroken : LabelledNetwork → Type 0
 PdusAreUnbroken w = AllByRecursion (λ copy. PduIsUnbroken copy.content) w.copies
 
 -- what a copy carries was made outside, or it is a range of a unit that was made, or an ES-IS value that a PDU can carry
-abbrev pub OutsideOrRange : List unit.Unit → Copy → Type 0
+abbrev pub OutsideOrRange : List DataUnit → Copy → Type 0
 OutsideOrRange units copy = (copy.maker ≡ Outside) ⊎ RangeIn units copy.birth copy.content
 
 -- so it is of each copy on the network
-abbrev pub CarriesRangesOrOutside : World → Type 0
+abbrev pub CarriesRangesOrOutside : LabelledNetwork → Type 0
 CarriesRangesOrOutside w = AllByRecursion (OutsideOrRange w.units) w.copies
 
 -- who made what a frame carries made its packet's unit; octets that begin with no PDU are from outside
@@ -69,5 +68,5 @@ pub record HasItsMaker (plan : Plan) (copies : List Copy) (copy : Copy) : Type 0
   pub outside : copy.maker ≡ Outside → IsTraced plan copies copy.content
 
 -- so it is of each copy on the network
-abbrev pub EachHasItsMaker : Plan → World → Type 0
+abbrev pub EachHasItsMaker : Plan → LabelledNetwork → Type 0
 EachHasItsMaker plan w = AllByRecursion (HasItsMaker plan w.copies) w.copies

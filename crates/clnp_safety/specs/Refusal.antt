@@ -1,9 +1,9 @@
 -- What a refused send leaves.
 use Rattle.std.specs.Prelude.{◌≡◌, ℕ, List}
-use Rattle.clnp_network.specs.World.{World, Step}
+use Rattle.clnp_network.specs.LabelledNetwork.{LabelledNetwork, Step}
 use Rattle.clnp_network.specs.Safe.{HandsUp}
 
 -- the world is as it was, and nothing is handed up
-pub record LeavesNothing (w : World) (step : Step) : Type 0 where
+pub record LeavesNothing (w : LabelledNetwork) (step : Step) : Type 0 where
   pub world : step.world ≡ w
   pub lines : (from to octets : List ℕ) → ¬ (HandsUp step.lines from to octets)

@@ -3,7 +3,7 @@ use Rattle.std.specs.Prelude.{◌≡◌, List, [], ◌++◌}
 use Rattle.std.specs.List.{AllByRecursion, flat_map}
 use Rattle.clnp_network.specs.Scenario.Scenario.{Plan, IsClosed}
 use Rattle.clnp_network.specs.Scenario.declared.event.Move.{Move}
-use Rattle.clnp_network.specs.World.{World, after, first_world}
+use Rattle.clnp_network.specs.LabelledNetwork.{LabelledNetwork, after, first_world}
 use Rattle.clnp_network.specs.Clocks.{AreCurrent, NoneIsAhead, StaysTogether, TickTogether, clocks_after, clocks_of}
 use Rattle.clnp_network.specs.Run.{Entry, ending, entries_of, entry_text, journal, last_world, moves_made, moves_of_plan, run, stopped_at, world_after}
 use Rattle.clnp_network.specs.Safe.{CarriesRanges, EachIsFounded, FramesAreUnbroken, HoldsUnitsApart, HopsCountCopies, IdentifiersRest, IsHonest, IsWithinBudgets, IsWithinLifetimes, KeepsHeaders, KeepsWhatCame, NoInterference, NoneIsAlien, RedirectsChangeOneNextHop, TellsNoRule}
@@ -28,9 +28,11 @@ pub record ClosedRunsAreSafe (plan : Plan) : Type 0 where
   pub carried : (moves : List Move) → CarriesRanges (world_after plan (first_world plan) moves)
   pub unbroken : (moves : List Move) → FramesAreUnbroken (world_after plan (first_world plan) moves)
   -- each buffer holds segments of one unit, which stand in copies
-  pub held_apart : (moves : List Move) → StaysTogether plan moves → HoldsUnitsApart (world_after plan (first_world plan) moves)
+  pub held_apart : (moves : List Move) → StaysTogether plan moves
+      → HoldsUnitsApart (world_after plan (first_world plan) moves)
   -- and the whole network is sound beside the entries that led to it
-  pub sound : (moves : List Move) → StaysTogether plan moves → NetworkIsSound plan (entries_of plan (first_world plan) moves) (world_after plan (first_world plan) moves)
+  pub sound : (moves : List Move) → StaysTogether plan moves
+      → NetworkIsSound plan (entries_of plan (first_world plan) moves) (world_after plan (first_world plan) moves)
 
 -- What is safe about the runs of a scenario, whatever comes from outside, and besides where nothing does.
 pub record RunsAreSafe (plan : Plan) : Type 0 where
@@ -42,7 +44,8 @@ pub record RunsAreSafe (plan : Plan) : Type 0 where
   pub made_together : StaysTogether plan (moves_made plan)
   -- whatever the moves, each takes the clocks on as its kind says, and none comes to stand ahead of the network's clock; where no clock
   -- goes on alone all systems are at that
-  pub clocks : (w : World) (move : Move) → clocks_of (after plan w move).world ≡ clocks_after (clocks_of w) move
+  pub clocks : (w : LabelledNetwork) (move : Move)
+      → clocks_of (after plan w move).world ≡ clocks_after (clocks_of w) move
   pub none_ahead : (moves : List Move) → NoneIsAhead (world_after plan (first_world plan) moves)
   pub current : (moves : List Move) → TickTogether moves → AreCurrent (world_after plan (first_world plan) moves)
   -- what a copy carries was made outside, or is such a range or ES-IS PDU; what carries a PDU breaks no rule
@@ -60,8 +63,9 @@ pub record RunsAreSafe (plan : Plan) : Type 0 where
   pub hops : (moves : List Move) → HopsCountCopies (world_after plan (first_world plan) moves)
   pub headers : (moves : List Move) → KeepsHeaders (world_after plan (first_world plan) moves)
   -- each transmission that a line tells of is the copy with its number
-  pub told : (w : World) (move : Move) → AllByRecursion (TellsItsCopy (after plan w move).world.copies) (after plan w move).lines
+  pub told : (w : LabelledNetwork) (move : Move)
+      → AllByRecursion (TellsItsCopy (after plan w move).world.copies) (after plan w move).lines
   -- subnetworks take frames that are long enough, and ports and routes are as they should be, whatever was changed
   pub attached : (moves : List Move) → IsAttachedThroughout plan (world_after plan (first_world plan) moves)
   -- a redirect changes its destination's next hop alone
-  pub redirects : (w : World) → RedirectsChangeOneNextHop plan.limits w
+  pub redirects : (w : LabelledNetwork) → RedirectsChangeOneNextHop plan.limits w

@@ -5,7 +5,7 @@ ghost use Rattle.std.specs.List.{AllByRecursion};
 ghost use Rattle.clnp_machine.specs.ClnpPlan.declared.config.Limits.{Limits};
 ghost use Rattle.clnp_network.specs.Scenario.Scenario.{Plan, IsClosed, IsFit};
 ghost use Rattle.clnp_network.specs.Scenario.declared.event.Move.{Move};
-ghost use Rattle.clnp_network.specs.World.{World, after, first_world};
+ghost use Rattle.clnp_network.specs.LabelledNetwork.{LabelledNetwork, after, first_world};
 ghost use Rattle.clnp_network.specs.Clocks.{AreCurrent, NoneIsAhead, StaysTogether, TickTogether, clock_after, clocks_after, clocks_of};
 ghost use Rattle.clnp_network.specs.Run.{Entry, entries_of, full_weight, moves_made, moves_of_plan, run, text_of, until_full, world_after};
 ghost use Rattle.clnp_network.specs.Safe.{CarriesRanges, EachIsFounded, EachWasSent, FramesAreUnbroken, HoldsUnitsApart, HopsCountCopies, IdentifiersRest, IsHonest, IsSend, NoRefusal, IsWithinBudgets, IsWithinLifetimes, KeepsHeaders, KeepsWhatCame, NoInterference, NoneIsAlien, RedirectsChangeOneNextHop, TellsNoRule};
@@ -40,7 +40,8 @@ pub fn handed_up_was_sent()
 /// section 6.8): in the run of a scenario, and in whatever moves that take on no clock alone, or leave no
 /// two clocks further apart than the scenario lets them.
 pub fn no_unit_meets_another()
-    ensures run { (plan : Plan) → IsFit plan → IsClosed plan → AllByRecursion (λ (entry : Entry). NoInterference entry.lines) (run plan) }
+    ensures run { (plan : Plan) → IsFit plan → IsClosed plan
+        → AllByRecursion (λ (entry : Entry). NoInterference entry.lines) (run plan) }
     ensures moves { (plan : Plan) → IsFit plan → IsClosed plan → (moves : List Move) → TickTogether moves
         → AllByRecursion (λ (entry : Entry). NoInterference entry.lines) (entries_of plan (first_world plan) moves) }
     ensures together { (plan : Plan) → IsFit plan → IsClosed plan → (moves : List Move) → StaysTogether plan moves
@@ -52,7 +53,8 @@ pub fn no_unit_meets_another()
 /// Without frames from outside each frame of a run carries a range of a unit that was made, however
 /// often it was cut, or an ES-IS value that a PDU can carry, and nothing behind its PDU.
 pub fn ranges_of_units_are_carried()
-    ensures { (plan : Plan) → IsFit plan → IsClosed plan → (moves : List Move) → CarriesRanges (world_after plan (first_world plan) moves) }
+    ensures { (plan : Plan) → IsFit plan → IsClosed plan → (moves : List Move)
+        → CarriesRanges (world_after plan (first_world plan) moves) }
 {
     laws_of_steps();
 }
@@ -61,7 +63,8 @@ pub fn ranges_of_units_are_carried()
 /// range of a unit that was made, however often it was cut, or an ES-IS value that a PDU can carry, and
 /// nothing behind its PDU.
 pub fn all_but_frames_from_outside_carry_ranges()
-    ensures { (plan : Plan) → IsFit plan → (moves : List Move) → CarriesRangesOrOutside (world_after plan (first_world plan) moves) }
+    ensures { (plan : Plan) → IsFit plan → (moves : List Move)
+        → CarriesRangesOrOutside (world_after plan (first_world plan) moves) }
 {
     laws_of_steps();
 }
@@ -88,7 +91,8 @@ pub fn no_frame_breaks_a_rule()
 /// packet was cut and forwarded, and whatever frames come from outside: routers change the values of
 /// options, and never their lengths.
 pub fn headers_keep_their_length()
-    ensures { (plan : Plan) → IsFit plan → (moves : List Move) → KeepsHeaders (world_after plan (first_world plan) moves) }
+    ensures { (plan : Plan) → IsFit plan → (moves : List Move)
+        → KeepsHeaders (world_after plan (first_world plan) moves) }
 {
     laws_of_steps();
 }
@@ -96,7 +100,8 @@ pub fn headers_keep_their_length()
 /// Whatever frames come from outside, each frame of a run that carries a packet or an ES-IS value breaks
 /// no rule of its protocol: what systems send and send on is never broken.
 pub fn no_pdu_breaks_a_rule()
-    ensures { (plan : Plan) → IsFit plan → (moves : List Move) → PdusAreUnbroken (world_after plan (first_world plan) moves) }
+    ensures { (plan : Plan) → IsFit plan → (moves : List Move)
+        → PdusAreUnbroken (world_after plan (first_world plan) moves) }
 {
     laws_of_steps();
 }
@@ -172,7 +177,7 @@ pub fn reports_and_echoes_are_of_its_own()
 /// redirect's destination is as before, and each other system is as it was: whatever the network, and
 /// whatever the copy.
 pub fn a_redirect_changes_one_next_hop()
-    ensures { (limits : Limits) (w : World) → RedirectsChangeOneNextHop limits w }
+    ensures { (limits : Limits) (w : LabelledNetwork) → RedirectsChangeOneNextHop limits w }
 {
     machine::a_redirect_changes_one_next_hop();
 }
@@ -180,7 +185,8 @@ pub fn a_redirect_changes_one_next_hop()
 /// Two units that one system made with one identifier were made at least so long apart as an
 /// identifier rests, whatever the moves of whatever plan, and whatever frames come from outside.
 pub fn identifiers_rest()
-    ensures { (plan : Plan) (moves : List Move) → IdentifiersRest plan.limits.reuse (world_after plan (first_world plan) moves) }
+    ensures { (plan : Plan) (moves : List Move)
+        → IdentifiersRest plan.limits.reuse (world_after plan (first_world plan) moves) }
 {
     laws_of_steps();
 }
@@ -212,14 +218,16 @@ pub fn hops_count_copies()
 
 /// The copies of a world stay, in their order, and no more of them are settled than there are.
 pub fn copies_only_grow()
-    ensures copies { (plan : Plan) (w : World) (move : Move) → IsFront w.copies (after plan w move).world.copies }
+    ensures copies { (plan : Plan) (w : LabelledNetwork) (move : Move)
+        → IsFront w.copies (after plan w move).world.copies }
     ensures cursor { (plan : Plan) (moves : List Move) → IsWithinCopies (world_after plan (first_world plan) moves) }
 {}
 
 /// Where a line of a move tells of a transmission, the copy with its number is for that target, and its frame is those octets,
 /// whatever the world and whatever the move: all that is sent goes by a port that is there.
 pub fn transmissions_are_copies()
-    ensures { (plan : Plan) (w : World) (move : Move) → AllByRecursion (TellsItsCopy (after plan w move).world.copies) (after plan w move).lines }
+    ensures { (plan : Plan) (w : LabelledNetwork) (move : Move)
+        → AllByRecursion (TellsItsCopy (after plan w move).world.copies) (after plan w move).lines }
 {
     laws_of_steps();
     machine::what_is_sent_goes_by_a_port();
@@ -227,7 +235,8 @@ pub fn transmissions_are_copies()
 
 /// A send that is refused leaves the world as it was, and hands nothing up.
 pub fn refused_leaves_nothing()
-    ensures { (plan : Plan) (w : World) (move : Move) (from to octets : List ℕ) → IsSend plan move from to octets
+    ensures { (plan : Plan) (w : LabelledNetwork) (move : Move) (from to octets : List ℕ)
+        → IsSend plan move from to octets
         → ¬ (NoRefusal (after plan w move).lines) → LeavesNothing w (after plan w move) }
 {
     laws_of_steps();
@@ -236,7 +245,8 @@ pub fn refused_leaves_nothing()
 /// A unit is handed up only by a system that has its destination among its addresses, whatever the
 /// move: a line that says so has the name of one.
 pub fn only_owners_hand_up()
-    ensures { (plan : Plan) (w : World) (move : Move) → AllByRecursion (IsByOwner w.systems) (after plan w move).lines }
+    ensures { (plan : Plan) (w : LabelledNetwork) (move : Move)
+        → AllByRecursion (IsByOwner w.systems) (after plan w move).lines }
 {
     laws_of_steps();
 }
@@ -244,24 +254,30 @@ pub fn only_owners_hand_up()
 /// The moves that are made are the first of the scenario's: all of them, or those up to the first at
 /// which the network is full.
 pub fn moves_are_made_until_full()
-    ensures front { (plan : Plan) (w : World) (moves : List Move) → IsFront (until_full plan w moves) moves }
-    ensures all { (plan : Plan) (w : World) (moves : List Move) → full_weight plan w moves ≡ None → until_full plan w moves ≡ moves }
-    ensures stopped { (plan : Plan) (w : World) (moves : List Move) (weighs : ℕ) → full_weight plan w moves ≡ Some weighs
+    ensures front { (plan : Plan) (w : LabelledNetwork) (moves : List Move) → IsFront (until_full plan w moves) moves }
+    ensures all { (plan : Plan) (w : LabelledNetwork) (moves : List Move) → full_weight plan w moves ≡ None
+        → until_full plan w moves ≡ moves }
+    ensures stopped { (plan : Plan) (w : LabelledNetwork) (moves : List Move) (weighs : ℕ)
+        → full_weight plan w moves ≡ Some weighs
         → IsFullAt (world_after plan w (until_full plan w moves)) weighs }
 {}
 
 /// What some moves write stands at the beginning of what they write with others behind them.
 pub fn text_only_grows()
-    ensures { (plan : Plan) (w : World) (moves later : List Move) → IsFront moves later → IsFront (text_of plan w moves) (text_of plan w later) }
+    ensures { (plan : Plan) (w : LabelledNetwork) (moves later : List Move) → IsFront moves later
+        → IsFront (text_of plan w moves) (text_of plan w later) }
 {}
 
 /// Each move takes on the clocks of all systems by one tick, or that of one, or none, as its kind says, whatever the network; and the
 /// network's clock with all, and where a system's passes it. So no system's clock comes to stand ahead of the network's, where none
 /// does before.
 pub fn clocks_go_on_by_moves()
-    ensures systems { (plan : Plan) (w : World) (move : Move) → clocks_of (after plan w move).world ≡ clocks_after (clocks_of w) move }
-    ensures network { (plan : Plan) (w : World) (move : Move) → (after plan w move).world.clock ≡ clock_after w.clock (clocks_of w) move }
-    ensures none_ahead { (plan : Plan) (w : World) (move : Move) → NoneIsAhead w → NoneIsAhead (after plan w move).world }
+    ensures systems { (plan : Plan) (w : LabelledNetwork) (move : Move)
+        → clocks_of (after plan w move).world ≡ clocks_after (clocks_of w) move }
+    ensures network { (plan : Plan) (w : LabelledNetwork) (move : Move)
+        → (after plan w move).world.clock ≡ clock_after w.clock (clocks_of w) move }
+    ensures none_ahead { (plan : Plan) (w : LabelledNetwork) (move : Move) → NoneIsAhead w
+        → NoneIsAhead (after plan w move).world }
     ensures runs { (plan : Plan) (moves : List Move) → NoneIsAhead (world_after plan (first_world plan) moves) }
 {
     laws_of_steps();
@@ -270,7 +286,8 @@ pub fn clocks_go_on_by_moves()
 /// Where no move takes on the clock of one system alone, each system is at the moment of the network's clock, and no two clocks ever
 /// stand apart. The moves of a scenario of version 1 are such.
 pub fn clocks_that_tick_together_are_one()
-    ensures current { (plan : Plan) (moves : List Move) → TickTogether moves → AreCurrent (world_after plan (first_world plan) moves) }
+    ensures current { (plan : Plan) (moves : List Move) → TickTogether moves
+        → AreCurrent (world_after plan (first_world plan) moves) }
     ensures together { (plan : Plan) (moves : List Move) → TickTogether moves → StaysTogether plan moves }
     ensures version_1 { (plan : Plan) → IsFit plan → plan.version ≡ 1 → TickTogether (moves_of_plan plan) }
 {
@@ -282,7 +299,8 @@ pub fn clocks_that_tick_together_are_one()
 pub fn clocks_of_runs_stay_together()
     ensures called { (plan : Plan) → IsFit plan → StaysTogether plan (moves_of_plan plan) }
     ensures made { (plan : Plan) → IsFit plan → StaysTogether plan (moves_made plan) }
-    ensures front { (plan : Plan) (moves later : List Move) → IsFront moves later → StaysTogether plan later → StaysTogether plan moves }
+    ensures front { (plan : Plan) (moves later : List Move) → IsFront moves later → StaysTogether plan later
+        → StaysTogether plan moves }
 {}
 
 /// The runs of a fit scenario are safe: what the laws above say of its journal, of its lines and of its networks, in one record with
@@ -321,7 +339,8 @@ pub fn runs_are_safe()
 /// each system as many ports as at its declaration, each with a transit of at least 1 and an MTU of at least 512, at an address; each
 /// of its routes leads out of one of its ports, to a system at addresses, and no two of them have one prefix.
 pub fn attachments_of_runs_are_sound()
-    ensures { (plan : Plan) → IsFit plan → (moves : List Move) → IsAttachedThroughout plan (world_after plan (first_world plan) moves) }
+    ensures { (plan : Plan) → IsFit plan → (moves : List Move)
+        → IsAttachedThroughout plan (world_after plan (first_world plan) moves) }
 {
     laws_of_steps();
 }

@@ -1,1 +1,2 @@
 pub use Rattle.end_system.proofs.LocalEntity
+pub mod Given

@@ -99,7 +99,8 @@ impl System {
         requires there { port < length (entity_of self.old).ports }
         requires transit { 1 ≤ config.transit }
         requires mtu { 512 ≤ config.mtu }
-        ensures stands { (s : SystemState) → Stands self.old s → Stands self.new (step s (IsChanged (PortIsAt port config))).after }
+        ensures stands { (s : SystemState) → Stands self.old s
+            → Stands self.new (step s (IsChanged (PortIsAt port config))).after }
         ensures set { entity_of self.new ≡ record (entity_of self.old) {
           ports = slice_set (entity_of self.old).ports port config;
           esis = record (entity_of self.old).esis { next_hello = (entity_of self.old).moment };
@@ -124,7 +125,8 @@ impl System {
     pub fn set_mtu(&mut self, port: u8, mtu: u16)
         requires there { port < length (entity_of self.old).ports }
         requires mtu { 512 ≤ mtu }
-        ensures stands { (s : SystemState) → Stands self.old s → Stands self.new (step s (IsChanged (PortTakes port mtu))).after }
+        ensures stands { (s : SystemState) → Stands self.old s
+            → Stands self.new (step s (IsChanged (PortTakes port mtu))).after }
         ensures set { entity_of self.new ≡ record (entity_of self.old) {
           ports = ports_taking port mtu (slice_get (entity_of self.old).ports port) (entity_of self.old).ports;
         } }
@@ -173,8 +175,10 @@ impl System {
     /// The route of a prefix is gone from now on. Tells whether there was one. Routers alone have routes.
     pub fn remove_route(&mut self, prefix: &Prefix) -> bool
         requires router { (configuration_of self.old).role ≡ role.Router }
-        ensures there { (s : SystemState) → Stands self.old s → result ≡ list_any (has_prefix prefix.now) s.attached.routes }
-        ensures stands { (s : SystemState) → Stands self.old s → Stands self.new (step s (IsChanged (RouteIsGone prefix.now))).after }
+        ensures there { (s : SystemState) → Stands self.old s
+            → result ≡ list_any (has_prefix prefix.now) s.attached.routes }
+        ensures stands { (s : SystemState) → Stands self.old s
+            → Stands self.new (step s (IsChanged (RouteIsGone prefix.now))).after }
         ensures rest { entity_of self.new ≡ record (entity_of self.old) { routes = (entity_of self.new).routes } }
         ensures role { role_of self.new ≡ role_of self.old }
         ensures spent { (entity_of self.new).spent ≡ (entity_of self.old).spent }

@@ -16,7 +16,7 @@ use Rattle.clnp_machine.specs.Forwarding.declared.route.Route.{Route}
 use Rattle.clnp_machine.specs.Step.{step}
 use Rattle.clnp_machine.specs.System.{IsChanged, SystemState}
 use Rattle.clnp_network.specs.Scenario.Scenario.{Subnetwork}
-use Rattle.clnp_network.specs.World as network
+use Rattle.clnp_network.specs.LabelledNetwork as network
 use Rattle.clnp_systems.specs.Stands as clnp_systems
 use Rattle.clnp_systems.specs.declared.system.System.{System}
 use Rattle.clnp_world.specs.Changing.{GoesTo, MovesPort, RemovesRoute, SetsRoute, TakesAsPort, TakesMtu, TakesWhereOn}
@@ -35,7 +35,7 @@ use Rattle.clnp_world.proofs.TakeSteps.{comes_follows, is_behind, is_there, show
 
 -- A system is attached elsewhere.
 
-pub changes : (old : Network) (place : ℕ) (new : System) (change : Change) (lines : Lines) (model : network.World) (system : SystemState) → Holds old model
+pub changes : (old : Network) (place : ℕ) (new : System) (change : Change) (lines : Lines) (model : network.LabelledNetwork) (system : SystemState) → Holds old model
     → slice_get model.systems place ≡ Some system → GoesTo change system new
     → Follows (with_node old place new) lines lines (network.comes model place (IsChanged change))
 changes old place new change lines model system h there goes =
@@ -49,7 +49,7 @@ changes old place new change lines model system h there goes =
     comes_follows old code lines lines place (IsChanged change) model h (is_behind old place model h) puts
 
 -- the system at the place is then the one behind the change
-changed_there : (model : network.World) (place : ℕ) (system : SystemState) (change : Change) → slice_get model.systems place ≡ Some system
+changed_there : (model : network.LabelledNetwork) (place : ℕ) (system : SystemState) (change : Change) → slice_get model.systems place ≡ Some system
     → slice_get (network.comes model place (IsChanged change)).world.systems place ≡ Some (step system (IsChanged change)).after
 changed_there model place system change there =
     let after = (step system (IsChanged change)).after in
@@ -59,12 +59,12 @@ changed_there model place system change there =
 -- the line of a note of the system at a place is written
 abbrev pub WritesNote : Network → Lines → Lines → ℕ → Note → Type 0
 WritesNote code before after place told =
-    (model : network.World) (system : SystemState) → Shows code model → slice_get model.systems place ≡ Some system
+    (model : network.LabelledNetwork) (system : SystemState) → Shows code model → slice_get model.systems place ≡ Some system
     → Gains before after (Noted system.moment system.configuration.name told ∷ [])
 
 changes_and_tells : (old : Network) (before after : Lines) (place : ℕ) (new : System) (change : Change) (told : Note)
     → WritesNote (with_node old place new) before after place told
-    → (model : network.World) (system : SystemState) → Holds old model → slice_get model.systems place ≡ Some system → GoesTo change system new
+    → (model : network.LabelledNetwork) (system : SystemState) → Holds old model → slice_get model.systems place ≡ Some system → GoesTo change system new
     → Follows (with_node old place new) before after
     (network.followed_by (network.comes model place (IsChanged change)) (network.tells_of system told))
 changes_and_tells old before after place new change told writes model system h there goes =
@@ -75,7 +75,7 @@ changes_and_tells old before after place new change told writes model system h t
     record { holds = front.holds; lines = line }
 
 -- the system at the place stands for what it stood for
-stays_at : (old : Network) (place : ℕ) (new : System) (model : network.World) (system : SystemState) → Holds old model
+stays_at : (old : Network) (place : ℕ) (new : System) (model : network.LabelledNetwork) (system : SystemState) → Holds old model
     → slice_get model.systems place ≡ Some system → clnp_systems.Stands new system → Holds (with_node old place new) model
 stays_at old place new model system h there stands = record {
   shows = record {
@@ -96,7 +96,7 @@ stays_at old place new model system h there stands = record {
   behind = h.behind;
 }
 
-stays_follows : (old : Network) (place : ℕ) (new : System) (lines : Lines) (model : network.World) (system : SystemState) → Holds old model
+stays_follows : (old : Network) (place : ℕ) (new : System) (lines : Lines) (model : network.LabelledNetwork) (system : SystemState) → Holds old model
     → slice_get model.systems place ≡ Some system → clnp_systems.Stands new system
     → Follows (with_node old place new) lines lines (network.nothing model)
 stays_follows old place new lines model system h there stands =
@@ -106,21 +106,21 @@ stays_follows old place new lines model system h there stands =
 
 abbrev pub MovesAs : Network → Network → Lines → Lines → List Subnetwork → (place number subnet : ℕ) → (snpa : List ℕ) → Type 0
 MovesAs old code before after subnets place number subnet snpa =
-    (model : network.World) → Holds old model → Follows code before after (network.moves_port subnets model place number subnet snpa)
+    (model : network.LabelledNetwork) → Holds old model → Follows code before after (network.moves_port subnets model place number subnet snpa)
 
 module _ (subnets : List Subnetwork) (place number subnet : ℕ) (snpa : List ℕ) where
-  on_no_mtu : (w : network.World) (declared : Option Subnetwork)
+  on_no_mtu : (w : network.LabelledNetwork) (declared : Option Subnetwork)
       → network.moves_port_on w place number subnet snpa declared None ≡ network.nothing w
   on_no_mtu w None = refl
   on_no_mtu w (Some declared) = refl
 
-  of_no_system : (w : network.World) (declared : Option Subnetwork) (mtu : Option ℕ) → slice_get w.systems place ≡ None
+  of_no_system : (w : network.LabelledNetwork) (declared : Option Subnetwork) (mtu : Option ℕ) → slice_get w.systems place ≡ None
       → network.moves_port_on w place number subnet snpa declared mtu ≡ network.nothing w
   of_no_system w None mtu none = refl
   of_no_system w (Some declared) None none = refl
   of_no_system w (Some declared) (Some mtu) none = ap (network.moves_port_of w place number subnet snpa mtu declared) none
 
-  moves_to : (w : network.World) (declared : Subnetwork) (mtu : ℕ) (system : SystemState) (found : Option PortConfig)
+  moves_to : (w : network.LabelledNetwork) (declared : Subnetwork) (mtu : ℕ) (system : SystemState) (found : Option PortConfig)
       → slice_get subnets subnet ≡ Some declared → slice_get w.mtus subnet ≡ Some mtu → slice_get w.systems place ≡ Some system
       → slice_get system.attached.ports number ≡ found
       → network.moves_port subnets w place number subnet snpa ≡ network.moves_port_to w place number subnet snpa mtu declared system found
@@ -192,7 +192,7 @@ wide_at code at mtu running read =
 
 abbrev pub RoutesAs : Network → Network → Lines → Lines → (place : ℕ) → Route → Type 0
 RoutesAs old code before after place route =
-    (model : network.World) → Holds old model → Follows code before after (network.sets_route model place route)
+    (model : network.LabelledNetwork) → Holds old model → Follows code before after (network.sets_route model place route)
 
 -- there is no system at the place
 pub routes_nowhere : (code : Network) (lines : Lines) (place : ℕ) (route : Route) → length code.systems.items ≤ place
@@ -203,7 +203,7 @@ routes_nowhere code lines place route past model h =
     subst (λ (s : Option SystemState). Follows code lines lines (network.sets_route_of model place route s)) (sym none)
     (follows_nothing code lines model h)
 
-sets_nothing : (role : Role) (w : network.World) (place : ℕ) (system : SystemState) (route : Route)
+sets_nothing : (role : Role) (w : network.LabelledNetwork) (place : ℕ) (system : SystemState) (route : Route)
     → (role ≡ Router → length system.attached.ports ≤ route.port) → network.sets_route_as role w place system route ≡ network.nothing w
 sets_nothing Host w place system route past = refl
 sets_nothing Router w place system route past =
@@ -221,7 +221,7 @@ routes_nothing old lines place node new route here sets model h =
     ∙ sets_nothing there.system.configuration.role model place there.system route isnt.leads_nowhere))
     (stays_follows old place new lines model there.system h there.at isnt.stays)
 
-sets_there : (w : network.World) (place : ℕ) (system : SystemState) (route : Route) → slice_get w.systems place ≡ Some system
+sets_there : (w : network.LabelledNetwork) (place : ℕ) (system : SystemState) (route : Route) → slice_get w.systems place ≡ Some system
     → system.configuration.role ≡ Router → route.port < length system.attached.ports
     → network.sets_route w place route
     ≡ network.followed_by (network.comes w place (IsChanged (RouteIsSet route))) (network.tells_of system (note.Route route.prefix))
@@ -244,7 +244,7 @@ routes_there old before after place node new route here sets writes model h =
 
 abbrev pub UnroutesAs : Network → Network → Lines → Lines → (place : ℕ) → (prefix : List ℕ) → Type 0
 UnroutesAs old code before after place prefix =
-    (model : network.World) → Holds old model → Follows code before after (network.removes_route model place prefix)
+    (model : network.LabelledNetwork) → Holds old model → Follows code before after (network.removes_route model place prefix)
 
 -- there is no system at the place
 pub unroutes_nowhere : (code : Network) (lines : Lines) (place : ℕ) (prefix : List ℕ) → length code.systems.items ≤ place
@@ -255,7 +255,7 @@ unroutes_nowhere code lines place prefix past model h =
     subst (λ (s : Option SystemState). Follows code lines lines (network.removes_route_of model place prefix s)) (sym none)
     (follows_nothing code lines model h)
 
-removes_as : (w : network.World) (place : ℕ) (system : SystemState) (prefix : List ℕ) (role : Role) → slice_get w.systems place ≡ Some system
+removes_as : (w : network.LabelledNetwork) (place : ℕ) (system : SystemState) (prefix : List ℕ) (role : Role) → slice_get w.systems place ≡ Some system
     → system.configuration.role ≡ role → network.removes_route w place prefix ≡ network.removes_route_as role w place system prefix
 removes_as w place system prefix role there is =
     ap (network.removes_route_of w place prefix) there ∙ ap (λ (r : Role). network.removes_route_as r w place system prefix) is
@@ -286,7 +286,7 @@ unroutes_there old before after place node new prefix was here removes writes mo
 
 -- A subnetwork takes frames of another length.
 
-pub changes_then : (start mid code : Network) (part next : network.World → network.Step) → Changes start mid part → Changes mid code next
+pub changes_then : (start mid code : Network) (part next : network.LabelledNetwork → network.Step) → Changes start mid part → Changes mid code next
     → Changes start code (λ w. network.followed_by (part w) next)
 changes_then start mid code part next first then model lines h =
     let front = first model lines h in
@@ -296,9 +296,9 @@ pub changes_none : (code : Network) → Changes code code network.nothing
 changes_none code model lines h = follows_nothing code lines model h
 
 -- one more place at which something is done, one after another
-pub changes_more : (one : network.World → ℕ → network.Step) (each : network.World → List ℕ → network.Step)
-    → ((w : network.World) → each w [] ≡ network.nothing w)
-    → ((w : network.World) (place : ℕ) (places : List ℕ) → each w (place ∷ places) ≡ network.followed_by (one w place) (λ v. each v places))
+pub changes_more : (one : network.LabelledNetwork → ℕ → network.Step) (each : network.LabelledNetwork → List ℕ → network.Step)
+    → ((w : network.LabelledNetwork) → each w [] ≡ network.nothing w)
+    → ((w : network.LabelledNetwork) (place : ℕ) (places : List ℕ) → each w (place ∷ places) ≡ network.followed_by (one w place) (λ v. each v places))
     → (start mid code : Network) (n : ℕ) → Changes start mid (λ w. each w (range_with_len 0 n)) → Changes mid code (λ w. one w n)
     → Changes start code (λ w. each w (range_with_len 0 (n + 1)))
 changes_more one each none more start mid code n first then model lines h =
@@ -347,7 +347,7 @@ resizes_more start mid code place subnet mtu so_far one =
 -- each port of the system at a place was looked at
 pub takes_all : (start code : Network) (place number count subnet mtu : ℕ) → place < length start.systems.items
     → Changes start code (λ w. network.resizes_ports w place subnet mtu (range_with_len 0 number))
-    → ((model : network.World) (system : SystemState) → Shows start model → slice_get model.systems place ≡ Some system
+    → ((model : network.LabelledNetwork) (system : SystemState) → Shows start model → slice_get model.systems place ≡ Some system
     → count ≡ length system.attached.ports)
     → number ≡ count → Changes start code (λ w. network.resizes_at w place subnet mtu)
 takes_all start code place number count subnet mtu within so_far counts all model lines h =
@@ -367,7 +367,7 @@ resizes_all start code place subnet mtu so_far all model lines h =
 -- the network keeps how long the frames of a subnetwork may be
 keeps_mtu : (old code : Network) (at mtu : ℕ) → IsWithin 512 65535 mtu → code.mtus.items ≡ slice_set old.mtus.items at mtu
     → code ≡ record old { mtus = code.mtus }
-    → (model : network.World) → Holds old model → Holds code (record model { mtus = slice_set model.mtus at mtu })
+    → (model : network.LabelledNetwork) → Holds old model → Holds code (record model { mtus = slice_set model.mtus at mtu })
 keeps_mtu old code at mtu wide is others model h =
     subst (λ (w : Network). Holds w (record model { mtus = slice_set model.mtus at mtu })) (sym others)
     record {
@@ -389,7 +389,7 @@ keeps_mtu old code at mtu wide is others model h =
 
 abbrev pub ResizesAs : Network → Network → Lines → Lines → List Subnetwork → (subnet mtu : ℕ) → Type 0
 ResizesAs old code before after subnets subnet mtu =
-    (model : network.World) → Holds old model → Follows code before after (network.resizes subnets model subnet mtu)
+    (model : network.LabelledNetwork) → Holds old model → Follows code before after (network.resizes subnets model subnet mtu)
 
 -- it wasn't declared
 pub resizes_none : (code : Network) (lines : Lines) (subnets : List Subnetwork) (subnet mtu : ℕ) → length subnets ≤ subnet
@@ -406,7 +406,7 @@ pub resizes_there : (old mid code : Network) (before after : Lines) (subnets : L
     → Gains before after (Resized code.clock declared.name mtu ∷ [])
     → ResizesAs old code before after subnets subnet mtu
 resizes_there old mid code before after subnets subnet mtu declared on wide is others changed line model h =
-    let w : network.World = record model { mtus = slice_set model.mtus subnet mtu } in
+    let w : network.LabelledNetwork = record model { mtus = slice_set model.mtus subnet mtu } in
     let front = changed w before (keeps_mtu old mid subnet mtu wide is others model h) in
     let part = network.resizes_each w subnet mtu (range_with_len 0 (length model.systems)) in
     let told = subst (λ (now : ℕ). Gains before after (Resized now declared.name mtu ∷ [])) front.holds.shows.clock line in

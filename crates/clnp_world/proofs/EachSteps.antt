@@ -1,8 +1,9 @@
 -- Hosts that stand for the systems at their places.
-use Rattle.std.proofs.Common.{◌≡◌, ◌<◌, ◌≤◌, ℕ, zero, suc, List, [], ◌∷◌, ◌++◌, length, get_or, Option, None, Some, refl, ap, subst}
+use Rattle.std.proofs.Common.{◌≡◌, ◌<◌, ◌≤◌, ℕ, zero, suc, List, [], ◌∷◌, ◌++◌, length, get_or, Option, None, Some, refl, sym, subst}
 use Rattle.std.specs.Prelude.{slice_get, slice_set, IfSome}
 use Rattle.std.specs.Option.{MatchOption}
 use Rattle.std.proofs.lemmas.Option.{MatchOption-at_none, MatchOption-at_some, slice_get_read}
+use Rattle.std.proofs.lemmas.Slice.Zip.{AllZip-long, all_zipped_more}
 use Rattle.std.specs.List.{HoldsAt}
 use Rattle.clnp_machine.specs.System.{SystemState}
 use Rattle.clnp_systems.specs.declared.system.System.{System}
@@ -10,10 +11,7 @@ use Rattle.clnp_systems.specs.Stands as clnp_systems
 use Rattle.clnp_world.specs.Stands.{StandEach}
 
 pub each_length : (nodes : List System) (systems : List SystemState) → StandEach nodes systems → length nodes ≡ length systems
-each_length [] [] h = refl
-each_length [] (s ∷ ss) h = absurd h
-each_length (x ∷ xs) [] h = absurd h
-each_length (x ∷ xs) (s ∷ ss) h = ap suc (each_length xs ss h.1)
+each_length nodes systems h = sym (AllZip-long clnp_systems.Stands nodes systems h)
 
 pub each_at : (nodes : List System) (systems : List SystemState) (i : ℕ) (node : System) (system : SystemState) → StandEach nodes systems
     → slice_get nodes i ≡ Some node → slice_get systems i ≡ Some system → clnp_systems.Stands node system
@@ -36,10 +34,7 @@ each_set (x ∷ xs) (s ∷ ss) (suc i) node system h k = (h.0, each_set xs ss i 
 
 pub each_push : (nodes : List System) (systems : List SystemState) (node : System) (system : SystemState) → StandEach nodes systems
     → clnp_systems.Stands node system → StandEach (nodes ++ node ∷ []) (systems ++ system ∷ [])
-each_push [] [] node system h k = (k, tt)
-each_push [] (s ∷ ss) node system h k = absurd h
-each_push (x ∷ xs) [] node system h k = absurd h
-each_push (x ∷ xs) (s ∷ ss) node system h k = (h.0, each_push xs ss node system h.1 k)
+each_push nodes systems node system h k = all_zipped_more clnp_systems.Stands nodes systems node system h k
 
 -- the element that a look-up at a place finds, or that there is none
 pub found_at : {B : Type 0} (now : B → System) (found : Option B) (x : B) (nodes others : List System) (at : ℕ) → found ≡ Some x

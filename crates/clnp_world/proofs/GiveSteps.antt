@@ -10,7 +10,7 @@ use Rattle.clnp_machine.specs.ClnpPlan.declared.config.Limits.{Limits}
 use Rattle.clnp_machine.specs.Content.{IsCarried}
 use Rattle.clnp_machine.specs.System.{FrameComes, SystemState}
 use Rattle.clnp_machine.specs.Step.{step}
-use Rattle.clnp_network.specs.World as network
+use Rattle.clnp_network.specs.LabelledNetwork as network
 use Rattle.clnp_world.specs.Lines.{Gains}
 use Rattle.clnp_world.specs.declared.lines.Lines.{Lines}
 use Rattle.clnp_world.specs.Seen.{IsPortFor, frame_copy, origin_of}
@@ -26,7 +26,7 @@ use Rattle.clnp_world.proofs.LineSteps.{gains_more}
 use Rattle.clnp_world.proofs.PutSteps.{Born, puts_nothing, puts_line, puts_then, counted}
 
 -- a copy of the model, at its place
-pub copy_at : (code : Network) (model : network.World) (at : ℕ) (seen : FrameCopy) (copy : network.Copy) → Shows code model
+pub copy_at : (code : Network) (model : network.LabelledNetwork) (at : ℕ) (seen : FrameCopy) (copy : network.Copy) → Shows code model
     → at < length code.copies.items → seen ≡ get_or code.copies.items at seen → slice_get model.copies at ≡ Some copy → seen ≡ frame_copy copy
 copy_at code model at seen copy h within e there =
     let same = slice_get_read code.copies.items _ at seen refl within e in
@@ -52,23 +52,23 @@ came copy system seen port group port_is same group_is =
     ∙ ap (λ (b : Bool). FrameComes first seen.sender b copy.content) (group_is ∙ ap (λ (f : FrameCopy). network.is_group f.target) same)
     ∙ ap (λ (f : FrameCopy). FrameComes first f.sender (network.is_group copy.target) copy.content) same
 
-pub system_there : (code : Network) (model : network.World) (place : ℕ) → Shows code model → place < length code.systems.items
+pub system_there : (code : Network) (model : network.LabelledNetwork) (place : ℕ) → Shows code model → place < length code.systems.items
     → (system : SystemState) × (slice_get model.systems place ≡ Some system)
 system_there code model place h within =
     let same = each_length code.systems.items model.systems h.systems in
     slice_get_some model.systems place (omega arith)
 
-copy_there : (code : Network) (model : network.World) (at : ℕ) → Shows code model → at < length code.copies.items
+copy_there : (code : Network) (model : network.LabelledNetwork) (at : ℕ) → Shows code model → at < length code.copies.items
     → (copy : network.Copy) × (slice_get model.copies at ≡ Some copy)
 copy_there code model at h within =
     let same = counted code model h in
     slice_get_some model.copies at (omega arith)
 
-pub follows_nothing : (code : Network) (lines : Lines) (model : network.World) → Holds code model → Follows code lines lines (network.nothing model)
+pub follows_nothing : (code : Network) (lines : Lines) (model : network.LabelledNetwork) → Holds code model → Follows code lines lines (network.nothing model)
 follows_nothing code lines model h =
     let part = puts_nothing code model lines h.shows in record { holds = h; lines = part.lines }
 
-pub follows_then : (code : Network) (before between after : Lines) (part : network.Step) (next : network.World → network.Step)
+pub follows_then : (code : Network) (before between after : Lines) (part : network.Step) (next : network.LabelledNetwork → network.Step)
     → Gains before between part.lines → Follows code between after (next part.world)
     → Follows code before after (network.followed_by part next)
 follows_then code before between after part next e h =
@@ -81,7 +81,7 @@ abbrev pub numbered : ℕ → network.Copy → network.Numbered
 numbered number copy = record { number = number; copy = copy }
 
 -- a line tells by which port the copy comes to the system, and then it takes the copy in
-pub hands_over : (code : Network) (before between after : Lines) (number place : ℕ) (model : network.World) (copy : network.Copy) (system : SystemState)
+pub hands_over : (code : Network) (before between after : Lines) (number place : ℕ) (model : network.LabelledNetwork) (copy : network.Copy) (system : SystemState)
     → Gains before between
     (Received system.moment system.configuration.name number (network.first_port copy system.configuration.role system.attached.ports) ∷ [])
     → Follows code between after (network.takes_effect model place (step system (network.frame_to system copy)))
@@ -94,14 +94,14 @@ hands_over code before between after number place model copy system line taken =
 -- whether the copy is late
 abbrev pub TellsLate : Network → Limits → ℕ → Bool → Type 0
 TellsLate code limits at answer =
-    (model : network.World) (copy : network.Copy) → Shows code model → slice_get model.copies at ≡ Some copy
+    (model : network.LabelledNetwork) (copy : network.Copy) → Shows code model → slice_get model.copies at ≡ Some copy
     → answer ≡ network.is_late limits model copy
 
 pub gives_late : (code : Network) (before after : Lines) (limits : Limits) (number at place : ℕ) → place < length code.systems.items
     → TellsLate code limits at true
-    → ((model : network.World) (system : SystemState) → Shows code model → slice_get model.systems place ≡ Some system
+    → ((model : network.LabelledNetwork) (system : SystemState) → Shows code model → slice_get model.systems place ≡ Some system
     → Gains before after (Late system.moment system.configuration.name number ∷ []))
-    → (model : network.World) (copy : network.Copy) → Holds code model → slice_get model.copies at ≡ Some copy
+    → (model : network.LabelledNetwork) (copy : network.Copy) → Holds code model → slice_get model.copies at ≡ Some copy
     → Follows code before after (network.give limits (numbered number copy) model place)
 gives_late code before after limits number at place within tells writes model copy h there =
     let system = system_there code model place h.shows within in
@@ -112,7 +112,7 @@ gives_late code before after limits number at place within tells writes model co
     record { holds = h; lines = part.lines })
 
 pub gives_now : (old code : Network) (before after : Lines) (limits : Limits) (number at place : ℕ) → TellsLate old limits at false
-    → (model : network.World) (copy : network.Copy) (system : SystemState) → Holds old model → slice_get model.copies at ≡ Some copy
+    → (model : network.LabelledNetwork) (copy : network.Copy) (system : SystemState) → Holds old model → slice_get model.copies at ≡ Some copy
     → slice_get model.systems place ≡ Some system
     → Follows code before after (network.hand_to (numbered number copy) model place system)
     → Follows code before after (network.give limits (numbered number copy) model place)
@@ -124,20 +124,20 @@ gives_now old code before after limits number at place tells model copy system h
 -- the port by which the copy comes in to the system at the place, if it is for that one
 abbrev pub TellsPort : Network → ℕ → ℕ → Option ℕ → Type 0
 TellsPort code at place found =
-    (model : network.World) (copy : network.Copy) (system : SystemState) → Shows code model → slice_get model.copies at ≡ Some copy
+    (model : network.LabelledNetwork) (copy : network.Copy) (system : SystemState) → Shows code model → slice_get model.copies at ≡ Some copy
     → slice_get model.systems place ≡ Some system → IsPortFor copy system found
 
 -- what was done to give the copy by a port
 abbrev pub GivesBy : Network → Network → Lines → Lines → Limits → (number at place port : ℕ) → Type 0
 GivesBy old code before after limits number at place port =
-    (model : network.World) (copy : network.Copy) (system : SystemState) → Holds old model → slice_get model.copies at ≡ Some copy
+    (model : network.LabelledNetwork) (copy : network.Copy) (system : SystemState) → Holds old model → slice_get model.copies at ≡ Some copy
     → slice_get model.systems place ≡ Some system
     → port ≡ network.first_port copy system.configuration.role system.attached.ports
     → Follows code before after (network.give limits (numbered number copy) model place)
 
 pub gives_by : (old code : Network) (before after : Lines) (limits : Limits) (number at place port : ℕ) → place < length old.systems.items
     → TellsPort old at place (Some port) → GivesBy old code before after limits number at place port
-    → (model : network.World) (copy : network.Copy) → Holds old model → slice_get model.copies at ≡ Some copy
+    → (model : network.LabelledNetwork) (copy : network.Copy) → Holds old model → slice_get model.copies at ≡ Some copy
     → Follows code before after (network.give limits (numbered number copy) model place)
 gives_by old code before after limits number at place port within tells gives model copy h there =
     let system = system_there old model place h.shows within in
@@ -148,13 +148,13 @@ gives_by old code before after limits number at place port within tells gives mo
 -- what the code has given of a copy, to the systems below a place, is what the model has
 abbrev pub Gives : Network → Network → Lines → Lines → Limits → ℕ → ℕ → Type 0
 Gives start code before after limits at place =
-    (model : network.World) (copy : network.Copy) → Holds start model → slice_get model.copies at ≡ Some copy
+    (model : network.LabelledNetwork) (copy : network.Copy) → Holds start model → slice_get model.copies at ≡ Some copy
     → Follows code before after (network.give_each limits (numbered (at + 1) copy) model (network.addressees_from 0 copy (take place model.systems)))
 
 -- whether the copy is for the system at the place
 abbrev pub TellsAddressee : Network → ℕ → ℕ → Bool → Type 0
 TellsAddressee code at place answer =
-    (model : network.World) (copy : network.Copy) (system : SystemState) → Shows code model → slice_get model.copies at ≡ Some copy
+    (model : network.LabelledNetwork) (copy : network.Copy) (system : SystemState) → Shows code model → slice_get model.copies at ≡ Some copy
     → slice_get model.systems place ≡ Some system → answer ≡ network.is_addressee copy system
 
 pub tells_some : (code : Network) (at place port : ℕ) → TellsPort code at place (Some port) → TellsAddressee code at place true
@@ -176,7 +176,7 @@ still_running start code before after limits at place running within so_far =
     ((network.give_each limits (numbered (at + 1) copy.0) model (network.addressees_from 0 copy.0 (take place model.systems))).world, part.holds)
 
 -- whether the copy is for the system at the place, when those before it have it
-tells_then : (start mid : Network) (before between : Lines) (limits : Limits) (at place : ℕ) (answer : Bool) (model : network.World) (copy : network.Copy) (system : SystemState)
+tells_then : (start mid : Network) (before between : Lines) (limits : Limits) (at place : ℕ) (answer : Bool) (model : network.LabelledNetwork) (copy : network.Copy) (system : SystemState)
     → Gives start mid before between limits at place → TellsAddressee mid at place answer
     → Holds start model → slice_get model.copies at ≡ Some copy → slice_get model.systems place ≡ Some system
     → answer ≡ network.is_addressee copy system
@@ -192,7 +192,7 @@ tells_then start mid before between limits at place answer model copy system so_
 -- one more system is looked at, whether the copy is for it
 addressees_next : (start mid : Network) (before between : Lines) (limits : Limits) (at place : ℕ) (answer : Bool)
     → Gives start mid before between limits at place → place < length start.systems.items → TellsAddressee mid at place answer
-    → (model : network.World) (copy : network.Copy) → Holds start model → slice_get model.copies at ≡ Some copy
+    → (model : network.LabelledNetwork) (copy : network.Copy) → Holds start model → slice_get model.copies at ≡ Some copy
     → network.addressees_from 0 copy (take (place + 1) model.systems)
     ≡ network.addressees_from 0 copy (take place model.systems) ++ cond answer (place ∷ []) []
 addressees_next start mid before between limits at place answer so_far within tells model copy h there =
@@ -203,7 +203,7 @@ addressees_next start mid before between limits at place answer so_far within te
 
 pub gives_more : (start mid code : Network) (before between after : Lines) (limits : Limits) (at place : ℕ)
     → Gives start mid before between limits at place → place < length start.systems.items → TellsAddressee mid at place true
-    → ((model : network.World) (copy : network.Copy) → Holds mid model → slice_get model.copies at ≡ Some copy
+    → ((model : network.LabelledNetwork) (copy : network.Copy) → Holds mid model → slice_get model.copies at ≡ Some copy
     → Follows code between after (network.give limits (numbered (at + 1) copy) model place))
     → Gives start code before after limits at (place + 1)
 gives_more start mid code before between after limits at place so_far within tells next model copy h there =
@@ -230,7 +230,7 @@ gives_skip start code before after limits at place so_far within tells model cop
 pub gives_more_as : (start mid given code : Network) (before between lines after : Lines) (limits : Limits) (at place : ℕ)
     → Gives start mid before between limits at place → place < length start.systems.items → TellsAddressee mid at place true
     → code ≡ given → after ≡ lines
-    → ((model : network.World) (copy : network.Copy) → Holds mid model → slice_get model.copies at ≡ Some copy
+    → ((model : network.LabelledNetwork) (copy : network.Copy) → Holds mid model → slice_get model.copies at ≡ Some copy
     → Follows given between lines (network.give limits (numbered (at + 1) copy) model place))
     → Gives start code before after limits at (place + 1)
 gives_more_as start mid given code before between lines after limits at place so_far within tells same_code same_lines next =
@@ -249,7 +249,7 @@ gives_skip_as start mid code before between after limits at place so_far within 
 
 pub gives_all : (start code : Network) (before after : Lines) (limits : Limits) (at place : ℕ)
     → Gives start code before after limits at place → length start.systems.items ≤ place
-    → (model : network.World) (copy : network.Copy) → Holds start model → slice_get model.copies at ≡ Some copy
+    → (model : network.LabelledNetwork) (copy : network.Copy) → Holds start model → slice_get model.copies at ≡ Some copy
     → Follows code before after (network.give_each limits (numbered (at + 1) copy) model (network.addressees_from 0 copy model.systems))
 gives_all start code before after limits at place so_far all model copy h there =
     let same = each_length start.systems.items model.systems h.shows.systems in
@@ -269,7 +269,7 @@ any_last (first ∷ places) place = refl
 -- whether the copy is for some of the systems below a place
 abbrev pub TellsGiven : Network → ℕ → ℕ → Bool → Type 0
 TellsGiven start at place answer =
-    (model : network.World) (copy : network.Copy) → Holds start model → slice_get model.copies at ≡ Some copy
+    (model : network.LabelledNetwork) (copy : network.Copy) → Holds start model → slice_get model.copies at ≡ Some copy
     → answer ≡ is_any (network.addressees_from 0 copy (take place model.systems))
 
 pub given_none : (start : Network) (at : ℕ) → TellsGiven start at 0 false
@@ -290,14 +290,14 @@ given_skip start mid before between limits at place was answer so_far within tel
     is ∙ (given model copy h there ∙ sym (ap is_any (same ∙ append-nil (network.addressees_from 0 copy (take place model.systems)))))
 
 given_all : (start : Network) (at place : ℕ) (answer : Bool) → TellsGiven start at place answer → length start.systems.items ≤ place
-    → (model : network.World) (copy : network.Copy) → Holds start model → slice_get model.copies at ≡ Some copy
+    → (model : network.LabelledNetwork) (copy : network.Copy) → Holds start model → slice_get model.copies at ≡ Some copy
     → answer ≡ is_any (network.addressees_from 0 copy model.systems)
 given_all start at place answer given all model copy h there =
     let same = each_length start.systems.items model.systems h.shows.systems in
     given model copy h there
     ∙ ap (λ (ss : List SystemState). is_any (network.addressees_from 0 copy ss)) (take_all place model.systems (omega arith))
 
-settled_some : (limits : Limits) (given : network.Numbered) (model : network.World) (places : List ℕ) → true ≡ is_any places
+settled_some : (limits : Limits) (given : network.Numbered) (model : network.LabelledNetwork) (places : List ℕ) → true ≡ is_any places
     → network.settle_for limits given model places ≡ network.give_each limits given model places
 settled_some limits given model [] is = absurd (true≢false is)
 settled_some limits given model (place ∷ places) is = refl
@@ -309,7 +309,7 @@ none_there (place ∷ places) is = absurd (true≢false (sym is))
 -- what a settling comes to
 abbrev pub Settles : Network → Network → Lines → Lines → Limits → ℕ → Type 0
 Settles start code before after limits at =
-    (model : network.World) (copy : network.Copy) → Holds start model → slice_get model.copies at ≡ Some copy
+    (model : network.LabelledNetwork) (copy : network.Copy) → Holds start model → slice_get model.copies at ≡ Some copy
     → Follows code before after (network.settle_for limits (numbered (at + 1) copy) model (network.addressees_from 0 copy model.systems))
 
 -- the copy was given to some system
@@ -338,7 +338,7 @@ settles_none start code before between after limits at place so_far given all li
 
 -- The copy at the cursor.
 
-pub moves_on : (code : Network) (model : network.World) → Holds code model
+pub moves_on : (code : Network) (model : network.LabelledNetwork) → Holds code model
     → Holds (record code { cursor = code.cursor + 1 }) (record model { cursor = model.cursor + 1 })
 moves_on code model h = record {
   shows = record {
@@ -359,20 +359,20 @@ moves_on code model h = record {
 
 -- the copy at the cursor is given
 pub settles : (old code : Network) (before after : Lines) (limits : Limits) → old.cursor < length old.copies.items
-    → ((model : network.World) (copy : network.Copy) → Holds (record old { cursor = old.cursor + 1 }) model → slice_get model.copies old.cursor ≡ Some copy
+    → ((model : network.LabelledNetwork) (copy : network.Copy) → Holds (record old { cursor = old.cursor + 1 }) model → slice_get model.copies old.cursor ≡ Some copy
     → Follows code before after (network.settle_for limits (numbered (old.cursor + 1) copy) model (network.addressees_from 0 copy model.systems)))
-    → (model : network.World) → Holds old model → Follows code before after (network.settle_one limits model)
+    → (model : network.LabelledNetwork) → Holds old model → Follows code before after (network.settle_one limits model)
 settles old code before after limits within next model h =
     let copy = copy_there old model old.cursor h.shows within in
     let at : slice_get model.copies model.cursor ≡ Some copy.0 = subst (λ (n : ℕ). slice_get model.copies n ≡ Some copy.0) h.shows.cursor copy.1 in
-    let w : network.World = record model { cursor = model.cursor + 1 } in
+    let w : network.LabelledNetwork = record model { cursor = model.cursor + 1 } in
     subst (λ (c : Option network.Copy). Follows code before after (network.settle_copy limits model c)) (sym at)
     (subst (λ (n : ℕ). Follows code before after (network.settle_for limits (numbered (n + 1) copy.0) w (network.addressees_from 0 copy.0 model.systems)))
     h.shows.cursor (next w copy.0 (moves_on old model h) copy.1))
 
 -- no copy is left to lose
 pub loses_none : (code : Network) (lines : Lines) → length code.copies.items ≤ code.cursor
-    → (model : network.World) → Holds code model → Follows code lines lines (network.lose_one model)
+    → (model : network.LabelledNetwork) → Holds code model → Follows code lines lines (network.lose_one model)
 loses_none code lines past model h =
     let same = counted code model h.shows in
     let none : slice_get model.copies model.cursor ≡ None = slice_get_past model.copies model.cursor (omega (arith, h.shows.cursor)) in
@@ -381,7 +381,7 @@ loses_none code lines past model h =
 -- the copy at the cursor is lost
 pub loses : (old : Network) (before after : Lines) → old.cursor < length old.copies.items
     → Gains before after (Lost old.clock (old.cursor + 1) ∷ [])
-    → (model : network.World) → Holds old model → Follows (record old { cursor = old.cursor + 1 }) before after (network.lose_one model)
+    → (model : network.LabelledNetwork) → Holds old model → Follows (record old { cursor = old.cursor + 1 }) before after (network.lose_one model)
 loses old before after within line model h =
     let code : Network = record old { cursor = old.cursor + 1 } in
     let copy = copy_there old model old.cursor h.shows within in
@@ -394,7 +394,7 @@ loses old before after within line model h =
 
 -- A copy that is named by its number.
 
-delivered : (limits : Limits) (model : network.World) (number at place : ℕ) (system : SystemState) (found : Option network.Copy) → at ≡ number - 1
+delivered : (limits : Limits) (model : network.LabelledNetwork) (number at place : ℕ) (system : SystemState) (found : Option network.Copy) → at ≡ number - 1
     → slice_get model.systems place ≡ Some system → slice_get model.copies at ≡ found
     → network.deliver limits model number place ≡ network.deliver_to limits model number place found system
 delivered limits model number at place system found at_is here there =
@@ -405,10 +405,10 @@ delivered limits model number at place system found at_is here there =
 -- the line of a copy that isn't there for the system at the place is written
 abbrev pub WritesVoid : Network → Lines → Lines → ℕ → ℕ → Type 0
 WritesVoid code before after number place =
-    (model : network.World) (system : SystemState) → Shows code model → slice_get model.systems place ≡ Some system
+    (model : network.LabelledNetwork) (system : SystemState) → Shows code model → slice_get model.systems place ≡ Some system
     → Gains before after (Void system.moment system.configuration.name number ∷ [])
 
-void_follows : (code : Network) (before after : Lines) (number place : ℕ) (model : network.World) (system : SystemState)
+void_follows : (code : Network) (before after : Lines) (number place : ℕ) (model : network.LabelledNetwork) (system : SystemState)
     → WritesVoid code before after number place → Holds code model → slice_get model.systems place ≡ Some system
     → Follows code before after (network.is_void model system number)
 void_follows code before after number place model system writes h here =
@@ -417,7 +417,7 @@ void_follows code before after number place model system writes h here =
 
 -- there is no system at the place
 pub delivers_nowhere : (code : Network) (lines : Lines) (limits : Limits) (number place : ℕ) → length code.systems.items ≤ place
-    → (model : network.World) → Holds code model → Follows code lines lines (network.deliver limits model number place)
+    → (model : network.LabelledNetwork) → Holds code model → Follows code lines lines (network.deliver limits model number place)
 delivers_nowhere code lines limits number place past model h =
     let same = each_length code.systems.items model.systems h.shows.systems in
     let none : slice_get model.systems place ≡ None = slice_get_past model.systems place (omega arith) in
@@ -427,7 +427,7 @@ delivers_nowhere code lines limits number place past model h =
 -- there is no such copy
 pub delivers_none : (code : Network) (before after : Lines) (limits : Limits) (number at place : ℕ) → at ≡ number - 1 → place < length code.systems.items
     → length code.copies.items ≤ at → WritesVoid code before after number place
-    → (model : network.World) → Holds code model → Follows code before after (network.deliver limits model number place)
+    → (model : network.LabelledNetwork) → Holds code model → Follows code before after (network.deliver limits model number place)
 delivers_none code before after limits number at place at_is within past writes model h =
     let system = system_there code model place h.shows within in
     let same = counted code model h.shows in
@@ -438,7 +438,7 @@ delivers_none code before after limits number at place at_is within past writes 
 -- the copy isn't for the system
 pub delivers_other : (code : Network) (before after : Lines) (limits : Limits) (number at place : ℕ) → at ≡ number - 1 → place < length code.systems.items
     → at < length code.copies.items → TellsAddressee code at place false → WritesVoid code before after number place
-    → (model : network.World) → Holds code model → Follows code before after (network.deliver limits model number place)
+    → (model : network.LabelledNetwork) → Holds code model → Follows code before after (network.deliver limits model number place)
 delivers_other code before after limits number at place at_is within within' tells writes model h =
     let system = system_there code model place h.shows within in
     let copy = copy_there code model at h.shows within' in
@@ -450,9 +450,9 @@ delivers_other code before after limits number at place at_is within within' tel
 -- the copy is for the system
 pub delivers : (old code : Network) (before after : Lines) (limits : Limits) (number at place : ℕ) → at ≡ number - 1 → place < length old.systems.items
     → at < length old.copies.items → TellsAddressee old at place true
-    → ((model : network.World) (copy : network.Copy) → Holds old model → slice_get model.copies at ≡ Some copy
+    → ((model : network.LabelledNetwork) (copy : network.Copy) → Holds old model → slice_get model.copies at ≡ Some copy
     → Follows code before after (network.give limits (numbered number copy) model place))
-    → (model : network.World) → Holds old model → Follows code before after (network.deliver limits model number place)
+    → (model : network.LabelledNetwork) → Holds old model → Follows code before after (network.deliver limits model number place)
 delivers old code before after limits number at place at_is within within' tells gives model h =
     let system = system_there old model place h.shows within in
     let copy = copy_there old model at h.shows within' in

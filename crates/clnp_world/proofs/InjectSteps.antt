@@ -9,7 +9,7 @@ use Rattle.clnp_machine.specs.PduHeader.Reading.{rest_of}
 use Rattle.clnp_machine.specs.ClnpPlan.Journal.{Injected, Line}
 use Rattle.clnp_machine.specs.Content.{Esis, IsCarried, Labelled, Unlabelled, content_of, esis_value_in, frame_of, is_accepted, packet_from_outside, value_in}
 use Rattle.clnp_machine.specs.Unit.{Outside}
-use Rattle.clnp_network.specs.World as network
+use Rattle.clnp_network.specs.LabelledNetwork as network
 use Rattle.clnp_network.specs.Scenario.Scenario.{Subnetwork}
 use Rattle.clnp_world.specs.Lines.{Gains}
 use Rattle.clnp_world.specs.declared.lines.Lines.{Lines}
@@ -45,7 +45,7 @@ pub injects_there : (spells : (number moment : ℕ) (octets : List ℕ) → IsBy
     → Gains before after (Injected old.clock (number + 1) declared.name sender target ∷ [])
     → PutsCopies old code (outside_copy subnet sender target old.clock octets ∷ [])
     → code ≡ record old { copies = code.copies; weight = code.weight }
-    → (model : network.World) → Holds old model → Follows code before after (network.injects subnets model subnet sender target octets)
+    → (model : network.LabelledNetwork) → Holds old model → Follows code before after (network.injects subnets model subnet sender target octets)
 injects_there spells carries old code before after subnets subnet number declared sender target octets there bytes few n line put others model h =
     let next = length model.copies + 1 in
     let made = network.copy_from_outside next model.clock subnet sender target octets in

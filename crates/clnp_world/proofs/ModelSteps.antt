@@ -18,7 +18,7 @@ use Rattle.clnp_machine.specs.Unit.{DeclaredAt, Maker, Outside}
 use Rattle.clnp_machine.specs.System.{SystemState, Output, Transmits, SendsEsis, Notes, Effect, first_state}
 use Rattle.clnp_machine.specs.Step.{step}
 use Rattle.clnp_network.specs.Clocks.{NoneIsAhead}
-use Rattle.clnp_network.specs.World as network
+use Rattle.clnp_network.specs.LabelledNetwork as network
 use Rattle.clnp_network.specs.Run.{told_lines}
 use Rattle.clnp_world.specs.Seen.{IsPortFor}
 use Rattle.clnp_machine.proofs.ClnpBase.ListSteps.{slice_get_front, take_push, map_set, all_set, range_push}
@@ -27,21 +27,21 @@ pub use Rattle.clnp_machine.proofs.Deeds.{step_attached, step_itself, step_momen
 pub told_lines-append : (telling : Telling) (xs ys : List Line) → told_lines telling (xs ++ ys) ≡ told_lines telling xs ++ told_lines telling ys
 told_lines-append telling xs ys = flat_map-append (told_text telling) xs ys
 
-pub step_same : (w : network.World) (xs ys : List Line) → xs ≡ ys
+pub step_same : (w : network.LabelledNetwork) (xs ys : List Line) → xs ≡ ys
     → (let s : network.Step = record { world = w; lines = xs } in s) ≡ (let s : network.Step = record { world = w; lines = ys } in s)
 step_same w xs ys e = ap (λ (ls : List Line). (let s : network.Step = record { world = w; lines = ls } in s)) e
 
 pub followed_by-nothing : (step : network.Step) → network.followed_by step network.nothing ≡ step
 followed_by-nothing step = step_same step.world (step.lines ++ []) step.lines (append-nil step.lines)
 
-pub followed_by-followed_by : (step : network.Step) (f g : network.World → network.Step)
+pub followed_by-followed_by : (step : network.Step) (f g : network.LabelledNetwork → network.Step)
     → network.followed_by (network.followed_by step f) g ≡ network.followed_by step (λ w. network.followed_by (f w) g)
 followed_by-followed_by step f g =
     step_same (g (f step.world).world).world ((step.lines ++ (f step.world).lines) ++ (g (f step.world).world).lines)
     (step.lines ++ ((f step.world).lines ++ (g (f step.world).world).lines))
     (append_assoc step.lines (f step.world).lines (g (f step.world).world).lines)
 
-pub put_all_out-push : (system : SystemState) (w : network.World) (outs : List Output) (out : Output)
+pub put_all_out-push : (system : SystemState) (w : network.LabelledNetwork) (outs : List Output) (out : Output)
     → network.put_all_out system w (outs ++ out ∷ []) ≡ network.followed_by (network.put_all_out system w outs) (λ v. network.put_out system v out)
 put_all_out-push system w [] out = followed_by-nothing (network.put_out system w out)
 put_all_out-push system w (first ∷ outs) out =
@@ -51,22 +51,22 @@ put_all_out-push system w (first ∷ outs) out =
 
 -- What is put out leaves the systems and the clock as they were, and each copy where it is.
 
-systems-put_out : (system : SystemState) (w : network.World) (out : Output) → (network.put_out system w out).world.systems ≡ w.systems
+systems-put_out : (system : SystemState) (w : network.LabelledNetwork) (out : Output) → (network.put_out system w out).world.systems ≡ w.systems
 systems-put_out system w (Notes note) = refl
 systems-put_out system w (Transmits port target packet) = refl
 systems-put_out system w (SendsEsis port target value) = refl
 
-clock-put_out : (system : SystemState) (w : network.World) (out : Output) → (network.put_out system w out).world.clock ≡ w.clock
+clock-put_out : (system : SystemState) (w : network.LabelledNetwork) (out : Output) → (network.put_out system w out).world.clock ≡ w.clock
 clock-put_out system w (Notes note) = refl
 clock-put_out system w (Transmits port target packet) = refl
 clock-put_out system w (SendsEsis port target value) = refl
 
-pub systems-put_all_out : (system : SystemState) (w : network.World) (outs : List Output)
+pub systems-put_all_out : (system : SystemState) (w : network.LabelledNetwork) (outs : List Output)
     → (network.put_all_out system w outs).world.systems ≡ w.systems
 systems-put_all_out system w [] = refl
 systems-put_all_out system w (first ∷ outs) = systems-put_all_out system (network.put_out system w first).world outs ∙ systems-put_out system w first
 
-pub clock-put_all_out : (system : SystemState) (w : network.World) (outs : List Output)
+pub clock-put_all_out : (system : SystemState) (w : network.LabelledNetwork) (outs : List Output)
     → (network.put_all_out system w outs).world.clock ≡ w.clock
 clock-put_all_out system w [] = refl
 clock-put_all_out system w (first ∷ outs) = clock-put_all_out system (network.put_out system w first).world outs ∙ clock-put_out system w first
@@ -75,7 +75,7 @@ clock-put_all_out system w (first ∷ outs) = clock-put_all_out system (network.
 abbrev pub made_by : SystemState → (port : ℕ) → Target → Maker → (birth : ℕ) → Content → List network.Copy
 made_by system port target maker birth content = network.copy_from (slice_get system.attached.ports port) target maker birth content
 
-copy-put_out : (system : SystemState) (w : network.World) (out : Output) (i : ℕ) (copy : network.Copy)
+copy-put_out : (system : SystemState) (w : network.LabelledNetwork) (out : Output) (i : ℕ) (copy : network.Copy)
     → slice_get w.copies i ≡ Some copy → slice_get (network.put_out system w out).world.copies i ≡ Some copy
 copy-put_out system w (Notes note) i copy e = e
 copy-put_out system w (Transmits port target packet) i copy e =
@@ -83,19 +83,19 @@ copy-put_out system w (Transmits port target packet) i copy e =
 copy-put_out system w (SendsEsis port target value) i copy e =
     slice_get_front w.copies (made_by system port target (DeclaredAt system.place) system.moment (Esis value [])) i copy e
 
-copy-put_all_out : (system : SystemState) (w : network.World) (outs : List Output) (i : ℕ) (copy : network.Copy)
+copy-put_all_out : (system : SystemState) (w : network.LabelledNetwork) (outs : List Output) (i : ℕ) (copy : network.Copy)
     → slice_get w.copies i ≡ Some copy → slice_get (network.put_all_out system w outs).world.copies i ≡ Some copy
 copy-put_all_out system w [] i copy e = e
 copy-put_all_out system w (first ∷ outs) i copy e =
     copy-put_all_out system (network.put_out system w first).world outs i copy (copy-put_out system w first i copy e)
 
-copy-takes_effect : (w : network.World) (place : ℕ) (effect : Effect) (i : ℕ) (copy : network.Copy)
+copy-takes_effect : (w : network.LabelledNetwork) (place : ℕ) (effect : Effect) (i : ℕ) (copy : network.Copy)
     → slice_get w.copies i ≡ Some copy → slice_get (network.takes_effect w place effect).world.copies i ≡ Some copy
 copy-takes_effect w place effect i copy e =
     copy-put_all_out effect.after (network.with_effect w place effect) effect.outputs i copy e
 
 -- a step that leaves its system's clock where it isn't ahead of the network's leaves all so
-pub behind-takes_effect : (w : network.World) (place : ℕ) (effect : Effect) → NoneIsAhead w → effect.after.moment ≤ w.clock
+pub behind-takes_effect : (w : network.LabelledNetwork) (place : ℕ) (effect : Effect) → NoneIsAhead w → effect.after.moment ≤ w.clock
     → NoneIsAhead (network.takes_effect w place effect).world
 behind-takes_effect w place effect h now =
     let v = network.with_effect w place effect in
@@ -128,7 +128,7 @@ frame_leaves s copy =
     ∙ ap (λ (a : Attachment). seat s.configuration a (step s comes).after.moment) (step_attached s comes)
     ∙ ap (seat s.configuration s.attached) (step_moment s comes)
 
-seats-takes_effect : (w : network.World) (place : ℕ) (system : SystemState) (effect : Effect) → slice_get w.systems place ≡ Some system
+seats-takes_effect : (w : network.LabelledNetwork) (place : ℕ) (system : SystemState) (effect : Effect) → slice_get w.systems place ≡ Some system
     → seat_of effect.after ≡ seat_of system
     → map seat_of (network.takes_effect w place effect).world.systems ≡ map seat_of w.systems
 seats-takes_effect w place system effect e same =
@@ -136,23 +136,23 @@ seats-takes_effect w place system effect e same =
     (systems-put_all_out effect.after (network.with_effect w place effect) effect.outputs)
     ∙ map_set seat_of w.systems place system effect.after e same
 
-abbrev given_to : Limits → network.Numbered → network.World → ℕ → SystemState → Bool → network.Step
+abbrev given_to : Limits → network.Numbered → network.LabelledNetwork → ℕ → SystemState → Bool → network.Step
 given_to limits given w place system late =
     cond late (network.writes w (Late system.moment system.configuration.name given.number)) (network.hand_to given w place system)
 
-seats-given : (limits : Limits) (given : network.Numbered) (w : network.World) (place : ℕ) (system : SystemState) (late : Bool)
+seats-given : (limits : Limits) (given : network.Numbered) (w : network.LabelledNetwork) (place : ℕ) (system : SystemState) (late : Bool)
     → slice_get w.systems place ≡ Some system
     → map seat_of (given_to limits given w place system late).world.systems ≡ map seat_of w.systems
 seats-given limits given w place system true e = refl
 seats-given limits given w place system false e =
     seats-takes_effect w place system (step system (network.frame_to system given.copy)) e (frame_leaves system given.copy)
 
-seats-give_to : (limits : Limits) (given : network.Numbered) (w : network.World) (place : ℕ) (s : Option SystemState) → slice_get w.systems place ≡ s
+seats-give_to : (limits : Limits) (given : network.Numbered) (w : network.LabelledNetwork) (place : ℕ) (s : Option SystemState) → slice_get w.systems place ≡ s
     → map seat_of (network.give_to limits given w place s).world.systems ≡ map seat_of w.systems
 seats-give_to limits given w place None e = refl
 seats-give_to limits given w place (Some system) e = seats-given limits given w place system (network.is_late limits w given.copy) e
 
-pub seats-give : (limits : Limits) (given : network.Numbered) (w : network.World) (place : ℕ)
+pub seats-give : (limits : Limits) (given : network.Numbered) (w : network.LabelledNetwork) (place : ℕ)
     → map seat_of (network.give limits given w place).world.systems ≡ map seat_of w.systems
 seats-give limits given w place = seats-give_to limits given w place (slice_get w.systems place) refl
 
@@ -165,18 +165,18 @@ same_clock now (x ∷ xs) [] i e = absurd (cc)
 same_clock now (x ∷ xs) (y ∷ ys) zero e = let head : seat_of x ≡ seat_of y = cc in ap (λ (s : Seat). s.moment) head
 same_clock now (x ∷ xs) (y ∷ ys) (suc i) e = let tail : map seat_of xs ≡ map seat_of ys = cc in same_clock now xs ys i tail
 
-clock_same : (maker : Maker) (v w : network.World) → map seat_of v.systems ≡ map seat_of w.systems → v.clock ≡ w.clock
+clock_same : (maker : Maker) (v w : network.LabelledNetwork) → map seat_of v.systems ≡ map seat_of w.systems → v.clock ≡ w.clock
     → network.clock_of v maker ≡ network.clock_of w maker
 clock_same Outside v w seated now = now
 clock_same (DeclaredAt place) v w seated now =
     ap (λ (t : ℕ). network.clock_at t (slice_get v.systems place)) now ∙ same_clock w.clock v.systems w.systems place seated
 
 -- so it is late or not alike
-pub same_age : (limits : Limits) (copy : network.Copy) (v w : network.World) → map seat_of v.systems ≡ map seat_of w.systems → v.clock ≡ w.clock
+pub same_age : (limits : Limits) (copy : network.Copy) (v w : network.LabelledNetwork) → map seat_of v.systems ≡ map seat_of w.systems → v.clock ≡ w.clock
     → network.is_late limits v copy ≡ network.is_late limits w copy
 same_age limits copy v w seated now = ap (nat_lt (copy.birth + limits.age)) (clock_same copy.maker v w seated now)
 
-pub seats-give_each : (limits : Limits) (given : network.Numbered) (w : network.World) (places : List ℕ)
+pub seats-give_each : (limits : Limits) (given : network.Numbered) (w : network.LabelledNetwork) (places : List ℕ)
     → map seat_of (network.give_each limits given w places).world.systems ≡ map seat_of w.systems
 seats-give_each limits given w [] = refl
 seats-give_each limits given w (place ∷ places) =
@@ -202,22 +202,22 @@ same_seat (x ∷ xs) (z ∷ ys) (suc i) y e at =
 
 -- nor is the clock, nor how many copies were passed.
 
-clock-given : (limits : Limits) (given : network.Numbered) (w : network.World) (place : ℕ) (system : SystemState) (late : Bool)
+clock-given : (limits : Limits) (given : network.Numbered) (w : network.LabelledNetwork) (place : ℕ) (system : SystemState) (late : Bool)
     → (given_to limits given w place system late).world.clock ≡ w.clock
 clock-given limits given w place system true = refl
 clock-given limits given w place system false =
     let effect = step system (network.frame_to system given.copy) in
     clock-put_all_out effect.after (network.with_effect w place effect) effect.outputs
 
-clock-give_to : (limits : Limits) (given : network.Numbered) (w : network.World) (place : ℕ) (s : Option SystemState)
+clock-give_to : (limits : Limits) (given : network.Numbered) (w : network.LabelledNetwork) (place : ℕ) (s : Option SystemState)
     → (network.give_to limits given w place s).world.clock ≡ w.clock
 clock-give_to limits given w place None = refl
 clock-give_to limits given w place (Some system) = clock-given limits given w place system (network.is_late limits w given.copy)
 
-pub clock-give : (limits : Limits) (given : network.Numbered) (w : network.World) (place : ℕ) → (network.give limits given w place).world.clock ≡ w.clock
+pub clock-give : (limits : Limits) (given : network.Numbered) (w : network.LabelledNetwork) (place : ℕ) → (network.give limits given w place).world.clock ≡ w.clock
 clock-give limits given w place = clock-give_to limits given w place (slice_get w.systems place)
 
-cursor-put_all_out : (system : SystemState) (w : network.World) (outs : List Output) → (network.put_all_out system w outs).world.cursor ≡ w.cursor
+cursor-put_all_out : (system : SystemState) (w : network.LabelledNetwork) (outs : List Output) → (network.put_all_out system w outs).world.cursor ≡ w.cursor
 cursor-put_all_out system w [] = refl
 cursor-put_all_out system w (Notes note ∷ outs) = cursor-put_all_out system (network.put_out system w (Notes note)).world outs
 cursor-put_all_out system w (Transmits port target packet ∷ outs) =
@@ -225,36 +225,36 @@ cursor-put_all_out system w (Transmits port target packet ∷ outs) =
 cursor-put_all_out system w (SendsEsis port target value ∷ outs) =
     cursor-put_all_out system (network.put_out system w (SendsEsis port target value)).world outs
 
-cursor-given : (limits : Limits) (given : network.Numbered) (w : network.World) (place : ℕ) (system : SystemState) (late : Bool)
+cursor-given : (limits : Limits) (given : network.Numbered) (w : network.LabelledNetwork) (place : ℕ) (system : SystemState) (late : Bool)
     → (given_to limits given w place system late).world.cursor ≡ w.cursor
 cursor-given limits given w place system true = refl
 cursor-given limits given w place system false =
     let effect = step system (network.frame_to system given.copy) in
     cursor-put_all_out effect.after (network.with_effect w place effect) effect.outputs
 
-cursor-give_to : (limits : Limits) (given : network.Numbered) (w : network.World) (place : ℕ) (s : Option SystemState)
+cursor-give_to : (limits : Limits) (given : network.Numbered) (w : network.LabelledNetwork) (place : ℕ) (s : Option SystemState)
     → (network.give_to limits given w place s).world.cursor ≡ w.cursor
 cursor-give_to limits given w place None = refl
 cursor-give_to limits given w place (Some system) = cursor-given limits given w place system (network.is_late limits w given.copy)
 
-pub cursor-give_each : (limits : Limits) (given : network.Numbered) (w : network.World) (places : List ℕ)
+pub cursor-give_each : (limits : Limits) (given : network.Numbered) (w : network.LabelledNetwork) (places : List ℕ)
     → (network.give_each limits given w places).world.cursor ≡ w.cursor
 cursor-give_each limits given w [] = refl
 cursor-give_each limits given w (place ∷ places) =
     cursor-give_each limits given (network.give limits given w place).world places ∙ cursor-give_to limits given w place (slice_get w.systems place)
 
-copy-given : (limits : Limits) (given : network.Numbered) (w : network.World) (place : ℕ) (system : SystemState) (late : Bool) (i : ℕ) (copy : network.Copy)
+copy-given : (limits : Limits) (given : network.Numbered) (w : network.LabelledNetwork) (place : ℕ) (system : SystemState) (late : Bool) (i : ℕ) (copy : network.Copy)
     → slice_get w.copies i ≡ Some copy → slice_get (given_to limits given w place system late).world.copies i ≡ Some copy
 copy-given limits given w place system true i copy e = e
 copy-given limits given w place system false i copy e = copy-takes_effect w place (step system (network.frame_to system given.copy)) i copy e
 
-copy-give_to : (limits : Limits) (given : network.Numbered) (w : network.World) (place : ℕ) (s : Option SystemState) (i : ℕ) (copy : network.Copy)
+copy-give_to : (limits : Limits) (given : network.Numbered) (w : network.LabelledNetwork) (place : ℕ) (s : Option SystemState) (i : ℕ) (copy : network.Copy)
     → slice_get w.copies i ≡ Some copy → slice_get (network.give_to limits given w place s).world.copies i ≡ Some copy
 copy-give_to limits given w place None i copy e = e
 copy-give_to limits given w place (Some system) i copy e =
     copy-given limits given w place system (network.is_late limits w given.copy) i copy e
 
-pub copy-give_each : (limits : Limits) (given : network.Numbered) (w : network.World) (places : List ℕ) (i : ℕ) (copy : network.Copy)
+pub copy-give_each : (limits : Limits) (given : network.Numbered) (w : network.LabelledNetwork) (places : List ℕ) (i : ℕ) (copy : network.Copy)
     → slice_get w.copies i ≡ Some copy → slice_get (network.give_each limits given w places).world.copies i ≡ Some copy
 copy-give_each limits given w [] i copy e = e
 copy-give_each limits given w (place ∷ places) i copy e =
@@ -262,10 +262,10 @@ copy-give_each limits given w (place ∷ places) i copy e =
     (copy-give_to limits given w place (slice_get w.systems place) i copy e)
 
 -- one more place at the end of those at which something is done, one after another
-pub each-push : (one : network.World → ℕ → network.Step) (each : network.World → List ℕ → network.Step)
-    → ((w : network.World) → each w [] ≡ network.nothing w)
-    → ((w : network.World) (place : ℕ) (places : List ℕ) → each w (place ∷ places) ≡ network.followed_by (one w place) (λ v. each v places))
-    → (w : network.World) (places : List ℕ) (place : ℕ)
+pub each-push : (one : network.LabelledNetwork → ℕ → network.Step) (each : network.LabelledNetwork → List ℕ → network.Step)
+    → ((w : network.LabelledNetwork) → each w [] ≡ network.nothing w)
+    → ((w : network.LabelledNetwork) (place : ℕ) (places : List ℕ) → each w (place ∷ places) ≡ network.followed_by (one w place) (λ v. each v places))
+    → (w : network.LabelledNetwork) (places : List ℕ) (place : ℕ)
     → each w (places ++ place ∷ []) ≡ network.followed_by (each w places) (λ v. one v place)
 each-push one each none more w [] place =
     more w place []
@@ -280,17 +280,17 @@ each-push one each none more w (first ∷ places) place =
     ∙ sym (followed_by-followed_by (one w first) (λ v. each v places) (λ v. one v place))
     ∙ ap (λ (s : network.Step). network.followed_by s (λ v. one v place)) (sym (more w first places))
 
-pub give_each-push : (limits : Limits) (given : network.Numbered) (w : network.World) (places : List ℕ) (place : ℕ)
+pub give_each-push : (limits : Limits) (given : network.Numbered) (w : network.LabelledNetwork) (places : List ℕ) (place : ℕ)
     → network.give_each limits given w (places ++ place ∷ [])
     ≡ network.followed_by (network.give_each limits given w places) (λ v. network.give limits given v place)
 give_each-push limits given w places place =
     each-push (network.give limits given) (network.give_each limits given) (λ v. refl) (λ v first others. refl) w places place
 
-abbrev pub tick_at : network.World → ℕ → network.Step
+abbrev pub tick_at : network.LabelledNetwork → ℕ → network.Step
 tick_at w place = network.goes_on w place (slice_get w.systems place)
 
 -- one more system has its tick
-pub tick_each-more : (w : network.World) (n : ℕ)
+pub tick_each-more : (w : network.LabelledNetwork) (n : ℕ)
     → network.tick_each w (range_with_len 0 (n + 1)) ≡ network.followed_by (network.tick_each w (range_with_len 0 n)) (λ v. tick_at v n)
 tick_each-more w n =
     ap (λ (places : List ℕ). network.tick_each w places)

@@ -18,14 +18,13 @@ use Rattle.clnp_machine.specs.ClnpPlan.declared.output.Output as output
 use Rattle.clnp_machine.specs.ClnpPlan.declared.output.Output.TheVariants.{Transmit, Note as Told}
 use Rattle.clnp_machine.specs.ClnpPlan.declared.output.Sending.{Sending}
 use Rattle.clnp_machine.specs.ClnpPlan.Journal.{Noted, Transmitted, Line}
-use Rattle.clnp_machine.specs.Unit as unit
-use Rattle.clnp_machine.specs.Unit.{DeclaredAt, Maker, Packet, value_of, wire, IsCarriable}
+use Rattle.clnp_machine.specs.Unit.{DataUnit, DeclaredAt, Maker, Packet, value_of, wire, IsCarriable}
 use Rattle.clnp_machine.specs.Content.{Content, Esis, IsCarried, Labelled, Unlabelled, frame_of}
 use Rattle.clnp_machine.specs.System.{SystemState, Output, Transmits, SendsEsis, Notes}
 use Rattle.clnp_machine.specs.Ways.{IsOwnWhereFirst}
-use Rattle.clnp_network.specs.World as network
+use Rattle.clnp_network.specs.LabelledNetwork as network
 use Rattle.clnp_systems.specs.declared.system.System.{System}
-use Rattle.clnp_machine.specs.Given.{CarriesUnit, GiveAllFor, GivesFor, frame_in}
+use Rattle.clnp_machine.specs.Given.{CarriesUnit, GiveAll, Gives, frame_in}
 use Rattle.clnp_world.specs.Lines.{Gains}
 use Rattle.clnp_world.specs.declared.lines.Lines.{Lines}
 use Rattle.clnp_world.specs.Seen.{frame_copy, frame_copies, frames_weight, origin_of}
@@ -39,18 +38,18 @@ use Rattle.clnp_world.proofs.LineSteps.{gains_nothing, gains_more}
 use Rattle.clnp_world.proofs.ModelSteps.{put_all_out-push, systems-put_all_out}
 
 -- nothing happens
-pub puts_nothing : (code : Network) (model : network.World) (lines : Lines) → Shows code model → Puts code lines lines (network.nothing model)
+pub puts_nothing : (code : Network) (model : network.LabelledNetwork) (lines : Lines) → Shows code model → Puts code lines lines (network.nothing model)
 puts_nothing code model lines h = record { shows = h; lines = gains_nothing lines }
 
 -- one part, and then the next
-pub puts_then : (code : Network) (before between after : Lines) (part : network.Step) (next : network.World → network.Step)
+pub puts_then : (code : Network) (before between after : Lines) (part : network.Step) (next : network.LabelledNetwork → network.Step)
     → Gains before between part.lines → Puts code between after (next part.world)
     → Puts code before after (network.followed_by part next)
 puts_then code before between after part next e h =
     record { shows = h.shows; lines = gains_more before between after part.lines (next part.world).lines e h.lines }
 
 -- nothing changes but that a line is written
-pub puts_line : (code : Network) (before after : Lines) (model : network.World) (line : Line) → Shows code model → Gains before after (line ∷ [])
+pub puts_line : (code : Network) (before after : Lines) (model : network.LabelledNetwork) (line : Line) → Shows code model → Gains before after (line ∷ [])
     → Puts code before after (network.writes model line)
 puts_line code before after model line h e = record { shows = h; lines = e }
 
@@ -59,7 +58,7 @@ puts_line code before after model line h e = record { shows = h; lines = e }
 sum_append : (xs ys : List ℕ) → sum (xs ++ ys) ≡ sum xs + sum ys
 sum_append xs ys = sum_by-append (λ (n : ℕ). n) xs ys
 
-pub weight_append : (model : network.World) (copies : List network.Copy)
+pub weight_append : (model : network.LabelledNetwork) (copies : List network.Copy)
     → sum (map network.copy_weight (model.copies ++ copies)) ≡ network.weight model + sum (map network.copy_weight copies)
 weight_append model copies =
     ap sum (map-append network.copy_weight model.copies copies) ∙ sum_append (map network.copy_weight model.copies) (map network.copy_weight copies)
@@ -121,7 +120,7 @@ copy_short (Some port) target origin frame short = (short, tt)
 pub shows_more : (old code : Network) (made : List network.Copy) (frames : List FrameCopy) → frames ≡ map frame_copy made
     → AllByRecursion Carried made → AllByRecursion Born made → AllByRecursion Short frames
     → PutsCopies old code frames → code ≡ record old { copies = code.copies; weight = code.weight }
-    → (model : network.World) → Shows old model → Shows code (record model { copies = model.copies ++ made })
+    → (model : network.LabelledNetwork) → Shows old model → Shows code (record model { copies = model.copies ++ made })
 shows_more old code made frames seen good born short put others model h = record {
   clock = ap (λ (w : Network). w.clock) others ∙ h.clock;
   systems = subst (λ (nodes : List System). StandEach nodes model.systems) (ap (λ (w : Network). w.systems.items) (sym others)) h.systems;
@@ -144,7 +143,7 @@ shows_more old code made frames seen good born short put others model h = record
 
 -- a frame that stands for what it carries
 puts_frame : (old code : Network) (before after : Lines) (port : ℕ) (target : Target) (maker : Maker) (birth : ℕ) (content : Content) (system : SystemState)
-    → (model : network.World) → Shows old model → IsCarried content → IsMadeWithUnit (origin_of maker birth) content → length (frame_of content) ≤ 70000
+    → (model : network.LabelledNetwork) → Shows old model → IsCarried content → IsMadeWithUnit (origin_of maker birth) content → length (frame_of content) ≤ 70000
     → Gains before after (Transmitted system.moment system.configuration.name (length model.copies + 1) port target (frame_of content) ∷ [])
     → PutsCopies old code (frame_copies (slice_get system.attached.ports port) target (origin_of maker birth) (frame_of content))
     → code ≡ record old { copies = code.copies; weight = code.weight }
@@ -168,16 +167,16 @@ own_origin : (maker : Maker) (made place moment : ℕ) → maker ≡ DeclaredAt 
 own_origin maker made place moment by at = sym (ap (λ (m : Maker). origin_of m made) by ∙ ap (origin_of (DeclaredAt place)) at)
 
 -- a frame that goes on is as old as the unit of the one that came
-as_old : (came : Origin) (content : Content) (u : unit.Unit) → IsMadeWithUnit came content → CarriesUnit content u
+as_old : (came : Origin) (content : Content) (u : DataUnit) → IsMadeWithUnit came content → CarriesUnit content u
     → came ≡ origin_of u.maker u.made
-as_old came (Labelled packet following) u born same = born ∙ ap (λ (v : unit.Unit). origin_of v.maker v.made) same
+as_old came (Labelled packet following) u born same = born ∙ ap (λ (v : DataUnit). origin_of v.maker v.made) same
 as_old came (Esis value following) u born same = absurd same
 as_old came (Unlabelled octets) u born same = absurd same
 
 -- the frame of a packet
 sends_packet : (old code : Network) (before after : Lines) (sending : Sending) (frame : List ℕ) (origin : Origin) (port : ℕ) (target : Target) (packet : Packet)
     → frame ≡ frame_in sending
-    → (model : network.World) (system : SystemState) → Shows old model
+    → (model : network.LabelledNetwork) (system : SystemState) → Shows old model
     → Gains before after (Transmitted system.moment system.configuration.name (length model.copies + 1) sending.port sending.to frame ∷ [])
     → PutsCopies old code (frame_copies (slice_get system.attached.ports sending.port) sending.to origin frame)
     → code ≡ record old { copies = code.copies; weight = code.weight }
@@ -195,11 +194,11 @@ sends_packet old code before after sending frame origin port target packet frame
 -- the frame that a sending is stands for an output of the model
 sends : (old code : Network) (before after : Lines) (place : ℕ) (came origin : Origin) (content : Content) (sending : Sending) (frame : List ℕ) (other : Output)
     → frame ≡ frame_in sending
-    → (model : network.World) (system : SystemState) → Shows old model → system.place ≡ place → origin ≡ sent_origin sending came place system.moment
+    → (model : network.LabelledNetwork) (system : SystemState) → Shows old model → system.place ≡ place → origin ≡ sent_origin sending came place system.moment
     → Gains before after (Transmitted system.moment system.configuration.name (length model.copies + 1) sending.port sending.to frame ∷ [])
     → PutsCopies old code (frame_copies (slice_get system.attached.ports sending.port) sending.to origin frame)
     → code ≡ record old { copies = code.copies; weight = code.weight } → IsMadeWithUnit came content → IsOwnWhereFirst system other
-    → GivesFor system.moment content (Transmit sending) other → Puts code before after (network.put_out system model other)
+    → Gives system.moment (Some content) (Transmit sending) other → Puts code before after (network.put_out system model other)
 sends old code before after place came origin content sending frame (Notes note) frame_is model system h here origin_is line put others born own gives = absurd gives
 sends old code before after place came origin content sending frame (Transmits port target packet) frame_is model system h here origin_is line put others born own (inl first) =
     let itself = own_origin packet.unit.maker packet.unit.made place system.moment (own first.hops ∙ ap DeclaredAt here) first.made in
@@ -226,45 +225,45 @@ sends old code before after place came origin content sending frame (SendsEsis p
 -- an output that is a frame stands for one of the model
 pub puts_transmission : (old code : Network) (before after : Lines) (place : ℕ) (came origin : Origin) (sending : Sending) (frame : List ℕ) (out : output.Output)
     → out ≡ Transmit sending → frame ≡ frame_in sending
-    → ((model : network.World) (system : SystemState) → Shows old model → slice_get model.systems place ≡ Some system
+    → ((model : network.LabelledNetwork) (system : SystemState) → Shows old model → slice_get model.systems place ≡ Some system
     → origin ≡ sent_origin sending came place system.moment)
-    → ((model : network.World) (system : SystemState) → Shows old model → slice_get model.systems place ≡ Some system
+    → ((model : network.LabelledNetwork) (system : SystemState) → Shows old model → slice_get model.systems place ≡ Some system
     → Gains before after (Transmitted system.moment system.configuration.name (length model.copies + 1) sending.port sending.to frame ∷ []))
-    → ((model : network.World) (system : SystemState) → Shows old model → slice_get model.systems place ≡ Some system
+    → ((model : network.LabelledNetwork) (system : SystemState) → Shows old model → slice_get model.systems place ≡ Some system
     → PutsCopies old code (frame_copies (slice_get system.attached.ports sending.port) sending.to origin frame))
     → code ≡ record old { copies = code.copies; weight = code.weight }
-    → (model : network.World) (system : SystemState) (content : Content) (other : Output) → Shows old model
+    → (model : network.LabelledNetwork) (system : SystemState) (content : Content) (other : Output) → Shows old model
     → slice_get model.systems place ≡ Some system → IsMadeWithUnit came content → IsOwnWhereFirst system other
-    → GivesFor system.moment content out other → Puts code before after (network.put_out system model other)
+    → Gives system.moment (Some content) out other → Puts code before after (network.put_out system model other)
 puts_transmission old code before after place came origin sending frame out is frame_is origin_is line copies others model system content other h there born own gives =
     sends old code before after place came origin content sending frame other frame_is model system h (h.placed place system there)
     (origin_is model system h there) (line model system h there) (copies model system h there) others born own
-    (subst (λ (o : output.Output). GivesFor system.moment content o other) is gives)
+    (subst (λ (o : output.Output). Gives system.moment (Some content) o other) is gives)
 
 -- an output that is a note stands for one of the model
-tells : (code : Network) (before after : Lines) (content : Content) (note : Note) (other : Output) (model : network.World) (system : SystemState) → Shows code model
+tells : (code : Network) (before after : Lines) (content : Content) (note : Note) (other : Output) (model : network.LabelledNetwork) (system : SystemState) → Shows code model
     → Gains before after (Noted system.moment system.configuration.name note ∷ [])
-    → GivesFor system.moment content (Told note) other → Puts code before after (network.put_out system model other)
+    → Gives system.moment (Some content) (Told note) other → Puts code before after (network.put_out system model other)
 tells code before after content note (Transmits port target packet) model system h line gives = absurd gives
 tells code before after content note (SendsEsis port target value) model system h line gives = absurd gives
 tells code before after content note (Notes told) model system h line gives =
     puts_line code before after model (Noted system.moment system.configuration.name told) h (rw gives at line)
 
 pub puts_note : (code : Network) (before after : Lines) (place : ℕ) (came : Origin) (note : Note) (out : output.Output) → out ≡ Told note
-    → ((model : network.World) (system : SystemState) → Shows code model → slice_get model.systems place ≡ Some system
+    → ((model : network.LabelledNetwork) (system : SystemState) → Shows code model → slice_get model.systems place ≡ Some system
     → Gains before after (Noted system.moment system.configuration.name note ∷ []))
-    → (model : network.World) (system : SystemState) (content : Content) (other : Output) → Shows code model
+    → (model : network.LabelledNetwork) (system : SystemState) (content : Content) (other : Output) → Shows code model
     → slice_get model.systems place ≡ Some system → IsMadeWithUnit came content → IsOwnWhereFirst system other
-    → GivesFor system.moment content out other → Puts code before after (network.put_out system model other)
+    → Gives system.moment (Some content) out other → Puts code before after (network.put_out system model other)
 puts_note code before after place came note out is line model system content other h there born own gives =
     tells code before after content note other model system h (line model system h there)
-    (subst (λ (o : output.Output). GivesFor system.moment content o other) is gives)
+    (subst (λ (o : output.Output). Gives system.moment (Some content) o other) is gives)
 
 -- Many outputs.
 
 -- the last of the outputs that the code has
-split_last : (moment : ℕ) (content : Content) (xs : List output.Output) (x : output.Output) (others : List Output) → GiveAllFor moment content (xs ++ x ∷ []) others
-    → (front : List Output) × (last : Output) × (others ≡ front ++ last ∷ []) × GiveAllFor moment content xs front × GivesFor moment content x last
+split_last : (moment : ℕ) (content : Content) (xs : List output.Output) (x : output.Output) (others : List Output) → GiveAll moment (Some content) (xs ++ x ∷ []) others
+    → (front : List Output) × (last : Output) × (others ≡ front ++ last ∷ []) × GiveAll moment (Some content) xs front × Gives moment (Some content) x last
 split_last moment content [] x [] h = absurd h
 split_last moment content [] x (other ∷ []) h = ([], other, refl, tt, h.0)
 split_last moment content [] x (other ∷ (more ∷ others)) h = absurd h.1
@@ -273,7 +272,7 @@ split_last moment content (y ∷ ys) x (other ∷ others) h =
     let r = split_last moment content ys x others h.1 in
     (other ∷ r.0, r.1, ap (λ (os : List Output). other ∷ os) r.2, (h.0, r.3), r.4)
 
-no_outputs : (moment : ℕ) (content : Content) (others : List Output) → GiveAllFor moment content [] others → others ≡ []
+no_outputs : (moment : ℕ) (content : Content) (others : List Output) → GiveAll moment (Some content) [] others → others ≡ []
 no_outputs moment content [] h = refl
 no_outputs moment content (other ∷ others) h = absurd h
 
@@ -284,9 +283,9 @@ all_parts P (x ∷ xs) ys h = let r = all_parts P xs ys h.1 in ((h.0, r.0), r.1)
 -- what the code has put out of a system's outputs is what the model has, where the system was given what has an origin
 abbrev pub PutsOut : Network → Network → Lines → Lines → (place : ℕ) → (came : Origin) → List output.Output → Type 0
 PutsOut start code before after place came outputs =
-    (model : network.World) (system : SystemState) (content : Content) (others : List Output) → Shows start model
+    (model : network.LabelledNetwork) (system : SystemState) (content : Content) (others : List Output) → Shows start model
     → slice_get model.systems place ≡ Some system → IsMadeWithUnit came content → AllByRecursion (IsOwnWhereFirst system) others
-    → GiveAllFor system.moment content outputs others → Puts code before after (network.put_all_out system model others)
+    → GiveAll system.moment (Some content) outputs others → Puts code before after (network.put_all_out system model others)
 
 pub puts_none : (code : Network) (lines : Lines) (place : ℕ) (came : Origin) → PutsOut code code lines lines place came []
 puts_none code lines place came model system content others h there born own gives =
@@ -295,9 +294,9 @@ puts_none code lines place came model system content others h there born own giv
 
 pub puts_more : (start mid code : Network) (before between after : Lines) (place : ℕ) (came : Origin) (outputs : List output.Output) (out : output.Output)
     → PutsOut start mid before between place came outputs
-    → ((model : network.World) (system : SystemState) (content : Content) (other : Output) → Shows mid model
+    → ((model : network.LabelledNetwork) (system : SystemState) (content : Content) (other : Output) → Shows mid model
     → slice_get model.systems place ≡ Some system → IsMadeWithUnit came content → IsOwnWhereFirst system other
-    → GivesFor system.moment content out other → Puts code between after (network.put_out system model other))
+    → Gives system.moment (Some content) out other → Puts code between after (network.put_out system model other))
     → PutsOut start code before after place came (outputs ++ out ∷ [])
 puts_more start mid code before between after place came outputs out so_far next model system content others h there born own gives =
     let r = split_last system.moment content outputs out others gives in
@@ -342,5 +341,5 @@ same_transmission before after t u name own n m port target frame octets a b c d
     same : t ≡ u → name ≡ own → n ≡ m → octets ≡ frame → Transmitted t name (n + 1) port target octets ≡ Transmitted u own (m + 1) port target frame
     same a b c d = cc
 
-pub counted : (code : Network) (model : network.World) → Shows code model → length code.copies.items ≡ length model.copies
+pub counted : (code : Network) (model : network.LabelledNetwork) → Shows code model → length code.copies.items ≡ length model.copies
 counted code model h = ap length h.copies ∙ length-map model.copies frame_copy

@@ -8,28 +8,28 @@ use Rattle.clnp_machine.specs.ClnpPlan.declared.config.PortConfig.{PortConfig}
 use Rattle.clnp_machine.specs.Step.{step}
 use Rattle.clnp_machine.specs.System.{IsChanged, SystemState}
 use Rattle.clnp_network.specs.Scenario.Scenario.{Subnetwork}
-use Rattle.clnp_network.specs.World as network
-use Rattle.clnp_network.specs.World.{World, ports_of}
+use Rattle.clnp_network.specs.LabelledNetwork as network
+use Rattle.clnp_network.specs.LabelledNetwork.{LabelledNetwork, ports_of}
 use Rattle.clnp_world.specs.Changed.{FitsEachPort, fitted, port_at}
 use Rattle.clnp_machine.proofs.ClnpBase.Lists.{slice_get-set, slice_get-set_other}
 
 -- What is done at one place after another, where it does something at its own place alone.
-module _ (one : World → ℕ → World) (each : World → List ℕ → World) (none : (w : World) → each w [] ≡ w)
-    (more : (w : World) (place : ℕ) (places : List ℕ) → each w (place ∷ places) ≡ each (one w place) places)
-    (at : World → ℕ → Option PortConfig) (f : PortConfig → PortConfig)
-    (here : (w : World) (place : ℕ) → at (one w place) place ≡ option_map f (at w place))
-    (elsewhere : (w : World) (place other : ℕ) → place ≢ other → at (one w place) other ≡ at w other) where
+module _ (one : LabelledNetwork → ℕ → LabelledNetwork) (each : LabelledNetwork → List ℕ → LabelledNetwork) (none : (w : LabelledNetwork) → each w [] ≡ w)
+    (more : (w : LabelledNetwork) (place : ℕ) (places : List ℕ) → each w (place ∷ places) ≡ each (one w place) places)
+    (at : LabelledNetwork → ℕ → Option PortConfig) (f : PortConfig → PortConfig)
+    (here : (w : LabelledNetwork) (place : ℕ) → at (one w place) place ≡ option_map f (at w place))
+    (elsewhere : (w : LabelledNetwork) (place other : ℕ) → place ≢ other → at (one w place) other ≡ at w other) where
   -- at every other place all is as it was
-  outside : (w : World) (from count other : ℕ) → (other < from) ⊎ (from + count ≤ other)
+  outside : (w : LabelledNetwork) (from count other : ℕ) → (other < from) ⊎ (from + count ≤ other)
       → at (each w (range_with_len from count)) other ≡ at w other
-  outside w from zero other out = ap (λ (v : World). at v other) (none w)
+  outside w from zero other out = ap (λ (v : LabelledNetwork). at v other) (none w)
   outside w from (suc count) other out =
       let later : (other < from + 1) ⊎ (from + 1 + count ≤ other) = elim out [ inl before ↦ inl (omega arith) | inr behind ↦ inr (omega (arith, behind)) ] in
       let differ : from ≢ other = elim out [
         | inl before ↦ (λ same. absurd (let no : ⊥ = omega (arith, same, before) in no))
         | inr behind ↦ (λ same. absurd (let no : ⊥ = omega (arith, same, behind) in no))
       ] in
-      ap (λ (v : World). at v other) (more w from (range_with_len (from + 1) count))
+      ap (λ (v : LabelledNetwork). at v other) (more w from (range_with_len (from + 1) count))
       ∙ outside (one w from) (from + 1) count other later
       ∙ elsewhere w from other differ
 
@@ -42,11 +42,11 @@ module _ (one : World → ℕ → World) (each : World → List ℕ → World) (
     | inr later ↦ inr (omega (arith, later))
   ]
 
-  within : (w : World) (from count place : ℕ) → from ≤ place → place < from + count
+  within : (w : LabelledNetwork) (from count place : ℕ) → from ≤ place → place < from + count
       → at (each w (range_with_len from count)) place ≡ option_map f (at w place)
   within w from zero place past before = absurd (omega arith)
   within w from (suc count) place past before =
-      ap (λ (v : World). at v place) (more w from (range_with_len (from + 1) count))
+      ap (λ (v : LabelledNetwork). at v place) (more w from (range_with_len (from + 1) count))
       ∙ elim (first_or_later from place past) [
         | inl same ↦
             subst (λ (p : ℕ). at (each (one w from) (range_with_len (from + 1) count)) p ≡ option_map f (at w p)) same
@@ -57,7 +57,7 @@ module _ (one : World → ℕ → World) (each : World → List ℕ → World) (
       ]
 
   -- so it is at every place, where there is nothing past the last
-  everywhere : (w : World) (count : ℕ) → ((place : ℕ) → count ≤ place → at w place ≡ None) → (place : ℕ)
+  everywhere : (w : LabelledNetwork) (count : ℕ) → ((place : ℕ) → count ≤ place → at w place ≡ None) → (place : ℕ)
       → at (each w (range_with_len 0 count)) place ≡ option_map f (at w place)
   everywhere w count past place = elim (inside_or_past place count) [
     | inl inside ↦ within w 0 count place (omega arith) (omega (arith, inside))
@@ -74,22 +74,22 @@ module _ (one : World → ℕ → World) (each : World → List ℕ → World) (
       ]
 
 -- what one after another keeps, all keep
-kept_by_each : (one : World → ℕ → World) (each : World → List ℕ → World) → ((w : World) → each w [] ≡ w)
-    → ((w : World) (place : ℕ) (places : List ℕ) → each w (place ∷ places) ≡ each (one w place) places)
-    → (P : World → Type 0) → ((w : World) (place : ℕ) → P w → P (one w place)) → (w : World) (places : List ℕ) → P w → P (each w places)
+kept_by_each : (one : LabelledNetwork → ℕ → LabelledNetwork) (each : LabelledNetwork → List ℕ → LabelledNetwork) → ((w : LabelledNetwork) → each w [] ≡ w)
+    → ((w : LabelledNetwork) (place : ℕ) (places : List ℕ) → each w (place ∷ places) ≡ each (one w place) places)
+    → (P : LabelledNetwork → Type 0) → ((w : LabelledNetwork) (place : ℕ) → P w → P (one w place)) → (w : LabelledNetwork) (places : List ℕ) → P w → P (each w places)
 kept_by_each one each none more P keeps w [] h = subst P (sym (none w)) h
 kept_by_each one each none more P keeps w (place ∷ places) h =
     subst P (sym (more w place places)) (kept_by_each one each none more P keeps (one w place) places (keeps w place h))
 
 -- A system is changed, and no other.
 
-ports_changed : (w : World) (place : ℕ) (change : Change) (system : SystemState) → slice_get w.systems place ≡ Some system
+ports_changed : (w : LabelledNetwork) (place : ℕ) (change : Change) (system : SystemState) → slice_get w.systems place ≡ Some system
     → ports_of (slice_get (network.comes w place (IsChanged change)).world.systems place) ≡ (changed change system.attached).ports
 ports_changed w place change system there =
     subst (λ (s : Option SystemState). ports_of (slice_get (network.comes_to w place (IsChanged change) s).world.systems place) ≡ (changed change system.attached).ports)
     (sym there) (ap ports_of (slice_get-set w.systems place (step system (IsChanged change)).after (within_get w.systems place system there)))
 
-others_unchanged : (w : World) (place other : ℕ) (change : Change) → place ≢ other
+others_unchanged : (w : LabelledNetwork) (place other : ℕ) (change : Change) → place ≢ other
     → slice_get (network.comes w place (IsChanged change)).world.systems other ≡ slice_get w.systems other
 others_unchanged w place other change differ = by_system (slice_get w.systems place)
   where
@@ -98,7 +98,7 @@ others_unchanged w place other change differ = by_system (slice_get w.systems pl
     by_system None = refl
     by_system (Some system) = slice_get-set_other w.systems place other (step system (IsChanged change)).after differ
 
-mtus_unchanged : (w : World) (place : ℕ) (change : Change) → (network.comes w place (IsChanged change)).world.mtus ≡ w.mtus
+mtus_unchanged : (w : LabelledNetwork) (place : ℕ) (change : Change) → (network.comes w place (IsChanged change)).world.mtus ≡ w.mtus
 mtus_unchanged w place change = by_system (slice_get w.systems place)
   where
     by_system : (found : Option SystemState) → (network.comes_to w place (IsChanged change) found).world.mtus ≡ w.mtus
@@ -106,14 +106,14 @@ mtus_unchanged w place change = by_system (slice_get w.systems place)
     by_system (Some system) = refl
 
 module _ (subnet mtu : ℕ) where
-  abbrev takes : World → (place number : ℕ) → World
+  abbrev takes : LabelledNetwork → (place number : ℕ) → LabelledNetwork
   takes w place number = (network.comes w place (IsChanged (PortTakes number mtu))).world
 
-  abbrev one_port : World → (place number : ℕ) → World
+  abbrev one_port : LabelledNetwork → (place number : ℕ) → LabelledNetwork
   one_port w place number = (network.resizes_port w place number subnet mtu).world
 
   -- the port of a number takes such frames
-  taken : (w : World) (place number : ℕ) (port : PortConfig) (found : Option SystemState) → slice_get w.systems place ≡ found
+  taken : (w : LabelledNetwork) (place number : ℕ) (port : PortConfig) (found : Option SystemState) → slice_get w.systems place ≡ found
       → slice_get (ports_of found) number ≡ Some port → port_at (takes w place number) place number ≡ Some (with_mtu mtu port)
   taken w place number port None there is = absurd (cc)
   taken w place number port (Some system) there is =
@@ -123,7 +123,7 @@ module _ (subnet mtu : ℕ) where
       ∙ slice_get-set ports number (with_mtu mtu port) (within_get ports number port is)
 
   -- each other port of the system is as it was
-  taken_other : (w : World) (place number other : ℕ) → number ≢ other → (found : Option SystemState) → slice_get w.systems place ≡ found
+  taken_other : (w : LabelledNetwork) (place number other : ℕ) → number ≢ other → (found : Option SystemState) → slice_get w.systems place ≡ found
       → port_at (takes w place number) place other ≡ slice_get (ports_of found) other
   taken_other w place number other differ None there =
       subst (λ (s : Option SystemState). slice_get (ports_of (slice_get (network.comes_to w place (IsChanged (PortTakes number mtu)) s).world.systems place)) other
@@ -138,7 +138,7 @@ module _ (subnet mtu : ℕ) where
 
   -- so it is where the port is on the subnetwork; where it isn't, nothing happens
 
-  port_here : (w : World) (place number : ℕ) → port_at (one_port w place number) place number ≡ option_map (fitted subnet mtu) (port_at w place number)
+  port_here : (w : LabelledNetwork) (place number : ℕ) → port_at (one_port w place number) place number ≡ option_map (fitted subnet mtu) (port_at w place number)
   port_here w place number = by_port (port_at w place number) refl
     where
       by_test : (port : PortConfig) → port_at w place number ≡ Some port → (on : Bool)
@@ -152,7 +152,7 @@ module _ (subnet mtu : ℕ) where
       by_port None is = is
       by_port (Some port) is = by_test port is (port.subnet == subnet)
 
-  port_leaves : (P : World → Type 0) (w : World) (place number : ℕ) → P w → P (takes w place number) → P (one_port w place number)
+  port_leaves : (P : LabelledNetwork → Type 0) (w : LabelledNetwork) (place number : ℕ) → P w → P (takes w place number) → P (one_port w place number)
   port_leaves P w place number same changed = by_port (port_at w place number)
     where
       by_test : (on : Bool) → P (cond on (network.comes w place (IsChanged (PortTakes number mtu))) (network.nothing w)).world
@@ -163,65 +163,65 @@ module _ (subnet mtu : ℕ) where
       by_port None = same
       by_port (Some port) = by_test (port.subnet == subnet)
 
-  port_other : (w : World) (place number other : ℕ) → number ≢ other → port_at (one_port w place number) place other ≡ port_at w place other
+  port_other : (w : LabelledNetwork) (place number other : ℕ) → number ≢ other → port_at (one_port w place number) place other ≡ port_at w place other
   port_other w place number other differ =
-      port_leaves (λ (v : World). port_at v place other ≡ port_at w place other) w place number refl
+      port_leaves (λ (v : LabelledNetwork). port_at v place other ≡ port_at w place other) w place number refl
       (taken_other w place number other differ (slice_get w.systems place) refl)
 
   -- a system's ports
 
-  abbrev all_ports : World → (place : ℕ) → (numbers : List ℕ) → World
+  abbrev all_ports : LabelledNetwork → (place : ℕ) → (numbers : List ℕ) → LabelledNetwork
   all_ports w place numbers = (network.resizes_ports w place subnet mtu numbers).world
 
-  abbrev one_system : World → (place : ℕ) → World
+  abbrev one_system : LabelledNetwork → (place : ℕ) → LabelledNetwork
   one_system w place = (network.resizes_at w place subnet mtu).world
 
-  system_here : (number : ℕ) (w : World) (place : ℕ)
+  system_here : (number : ℕ) (w : LabelledNetwork) (place : ℕ)
       → port_at (one_system w place) place number ≡ option_map (fitted subnet mtu) (port_at w place number)
   system_here number w place =
-      everywhere (λ (v : World) (n : ℕ). one_port v place n) (λ (v : World) (ns : List ℕ). all_ports v place ns) (λ v. refl) (λ v n ns. refl)
-      (λ (v : World) (n : ℕ). port_at v place n) (fitted subnet mtu)
+      everywhere (λ (v : LabelledNetwork) (n : ℕ). one_port v place n) (λ (v : LabelledNetwork) (ns : List ℕ). all_ports v place ns) (λ v. refl) (λ v n ns. refl)
+      (λ (v : LabelledNetwork) (n : ℕ). port_at v place n) (fitted subnet mtu)
       (λ v n. port_here v place n) (λ v n other differ. port_other v place n other differ)
       w (length (ports_of (slice_get w.systems place))) (λ n past. slice_get_past (ports_of (slice_get w.systems place)) n past) number
 
-  system_keeps : (P : World → Type 0) → ((w : World) (place number : ℕ) → P w → P (takes w place number)) → (w : World) (place : ℕ) → P w → P (one_system w place)
+  system_keeps : (P : LabelledNetwork → Type 0) → ((w : LabelledNetwork) (place number : ℕ) → P w → P (takes w place number)) → (w : LabelledNetwork) (place : ℕ) → P w → P (one_system w place)
   system_keeps P keeps w place h =
-      kept_by_each (λ (v : World) (n : ℕ). one_port v place n) (λ (v : World) (ns : List ℕ). all_ports v place ns) (λ v. refl) (λ v n ns. refl)
+      kept_by_each (λ (v : LabelledNetwork) (n : ℕ). one_port v place n) (λ (v : LabelledNetwork) (ns : List ℕ). all_ports v place ns) (λ v. refl) (λ v n ns. refl)
       P (λ v n k. port_leaves P v place n k (keeps v place n k)) w (range_with_len 0 (length (ports_of (slice_get w.systems place)))) h
 
-  port_elsewhere : (number : ℕ) (w : World) (place other : ℕ) → place ≢ other → port_at (one_system w place) other number ≡ port_at w other number
+  port_elsewhere : (number : ℕ) (w : LabelledNetwork) (place other : ℕ) → place ≢ other → port_at (one_system w place) other number ≡ port_at w other number
   port_elsewhere number w place other differ =
-      kept_by_each (λ (v : World) (n : ℕ). one_port v place n) (λ (v : World) (ns : List ℕ). all_ports v place ns) (λ v. refl) (λ v n ns. refl)
-      (λ (v : World). port_at v other number ≡ port_at w other number)
-      (λ v n k. port_leaves (λ (u : World). port_at u other number ≡ port_at w other number) v place n k
+      kept_by_each (λ (v : LabelledNetwork) (n : ℕ). one_port v place n) (λ (v : LabelledNetwork) (ns : List ℕ). all_ports v place ns) (λ v. refl) (λ v n ns. refl)
+      (λ (v : LabelledNetwork). port_at v other number ≡ port_at w other number)
+      (λ v n k. port_leaves (λ (u : LabelledNetwork). port_at u other number ≡ port_at w other number) v place n k
       (ap (λ (s : Option SystemState). slice_get (ports_of s) number) (others_unchanged v place other (PortTakes n mtu) differ) ∙ k))
       w (range_with_len 0 (length (ports_of (slice_get w.systems place)))) refl
 
   -- and those of all systems
 
-  abbrev all_systems : World → (places : List ℕ) → World
+  abbrev all_systems : LabelledNetwork → (places : List ℕ) → LabelledNetwork
   all_systems w places = (network.resizes_each w subnet mtu places).world
 
-  none_past : (w : World) (place number : ℕ) → length w.systems ≤ place → port_at w place number ≡ None
+  none_past : (w : LabelledNetwork) (place number : ℕ) → length w.systems ≤ place → port_at w place number ≡ None
   none_past w place number past = ap (λ (s : Option SystemState). slice_get (ports_of s) number) (slice_get_past w.systems place past)
 
-  each_port : (w : World) (place number : ℕ)
+  each_port : (w : LabelledNetwork) (place number : ℕ)
       → port_at (all_systems w (range_with_len 0 (length w.systems))) place number ≡ option_map (fitted subnet mtu) (port_at w place number)
   each_port w place number =
-      everywhere one_system all_systems (λ v. refl) (λ v p ps. refl) (λ (v : World) (p : ℕ). port_at v p number) (fitted subnet mtu)
+      everywhere one_system all_systems (λ v. refl) (λ v p ps. refl) (λ (v : LabelledNetwork) (p : ℕ). port_at v p number) (fitted subnet mtu)
       (λ v p. system_here number v p) (λ v p other differ. port_elsewhere number v p other differ)
       w (length w.systems) (λ p past. none_past w p number past) place
 
-  mtus_kept : (w : World) (places : List ℕ) → (all_systems w places).mtus ≡ w.mtus
+  mtus_kept : (w : LabelledNetwork) (places : List ℕ) → (all_systems w places).mtus ≡ w.mtus
   mtus_kept w places =
-      kept_by_each one_system all_systems (λ v. refl) (λ v p ps. refl) (λ (v : World). v.mtus ≡ w.mtus)
-      (λ v p k. system_keeps (λ (u : World). u.mtus ≡ w.mtus) (λ u q n same. mtus_unchanged u q (PortTakes n mtu) ∙ same) v p k)
+      kept_by_each one_system all_systems (λ v. refl) (λ v p ps. refl) (λ (v : LabelledNetwork). v.mtus ≡ w.mtus)
+      (λ v p k. system_keeps (λ (u : LabelledNetwork). u.mtus ≡ w.mtus) (λ u q n same. mtus_unchanged u q (PortTakes n mtu) ∙ same) v p k)
       w places refl
 
-  pub fits_each_port : (subnets : List Subnetwork) (w : World) (declared : Subnetwork) → slice_get subnets subnet ≡ Some declared
+  pub fits_each_port : (subnets : List Subnetwork) (w : LabelledNetwork) (declared : Subnetwork) → slice_get subnets subnet ≡ Some declared
       → FitsEachPort subnets w subnet mtu
   fits_each_port subnets w declared there =
-      let v : World = record w { mtus = slice_set w.mtus subnet mtu } in
+      let v : LabelledNetwork = record w { mtus = slice_set w.mtus subnet mtu } in
       let is : network.resizes subnets w subnet mtu ≡ network.resizes_on w subnet mtu (Some declared) = ap (network.resizes_on w subnet mtu) there in
       record {
         ports = λ place number. ap (λ (s : network.Step). port_at s.world place number) is ∙ each_port v place number;

@@ -5,25 +5,23 @@ use Rattle.std.specs.List.{AllByRecursion}
 use Rattle.std.specs.Vec.{with_item}
 use Rattle.std.proofs.lemmas.Option.{slice_get_past, slice_get_within as within_get}
 use Rattle.clnp_machine.specs.ClnpPlan.declared.config.Role.{Role}
-use Rattle.clnp_machine.specs.ClnpPlan.declared.config.Role.TheVariants.{Host, Router}
 use Rattle.clnp_machine.specs.ClnpPlan.declared.output.Output as output
 use Rattle.clnp_machine.specs.System as machine
 use Rattle.clnp_machine.specs.System.{SystemState, Effect}
 use Rattle.clnp_machine.specs.Step.{step}
-use Rattle.clnp_machine.specs.Steps.{moment_after}
+use Rattle.clnp_machine.specs.EveryStep.{moment_after}
 use Rattle.clnp_network.specs.Clocks.{NoneIsAhead}
-use Rattle.clnp_network.specs.World as network
+use Rattle.clnp_network.specs.LabelledNetwork as network
 use Rattle.clnp_systems.specs.declared.system.System.{System}
 use Rattle.clnp_systems.specs.Stands as clnp_systems
 use Rattle.clnp_systems.specs.Stands.{entity_of}
 use Rattle.clnp_systems.specs.SystemEntity.Steps.{AppendsOf, TakesStep, input_with, moment_at}
 use Rattle.clnp_systems.specs.SystemEntity.declared.input.Input.{Input}
-use Rattle.clnp_systems.specs.SystemEntity.declared.input.Input.TheVariants as coming
+use Rattle.clnp_systems.proofs.Given.{gives_any}
 use Rattle.clnp_machine.specs.Content.{Content, Unlabelled}
 use Rattle.clnp_machine.specs.Unit.{DeclaredAt}
 use Rattle.clnp_machine.specs.Ways.{IsOwnWhereFirst}
-use Rattle.clnp_machine.specs.Given.{AppendsFor, GiveAllFor}
-use Rattle.clnp_machine.proofs.Given.{appends_for}
+use Rattle.clnp_machine.specs.Given.{Appends, GiveAll}
 use Rattle.clnp_world.specs.declared.lines.Lines.{Lines}
 use Rattle.clnp_world.specs.Parts.{Shows, Holds, IsTimely, Puts, Follows}
 use Rattle.clnp_world.specs.Stands.{IsMadeWithUnit}
@@ -38,7 +36,7 @@ use Rattle.clnp_world.proofs.PutSteps.{PutsOut, puts_nothing}
 abbrev pub with_node : Network → ℕ → System → Network
 with_node code place node = record code { systems = with_item code.systems place node }
 
-pub shows_with : (code : Network) (place : ℕ) (node : System) (model : network.World) (effect : Effect) → Shows code model
+pub shows_with : (code : Network) (place : ℕ) (node : System) (model : network.LabelledNetwork) (effect : Effect) → Shows code model
     → clnp_systems.Stands node effect.after → effect.after.place ≡ place → Shows (with_node code place node) (network.with_effect model place effect)
 shows_with code place node model effect h stands here = record {
   clock = h.clock;
@@ -56,12 +54,12 @@ shows_with code place node model effect h stands here = record {
 }
 
 -- the system at the place of a system
-pub record IsThere (code : Network) (model : network.World) (place : ℕ) (node : System) : Type 0 where
+pub record IsThere (code : Network) (model : network.LabelledNetwork) (place : ℕ) (node : System) : Type 0 where
   pub system : SystemState
   pub at : slice_get model.systems place ≡ Some system
   pub stands : clnp_systems.Stands node system
 
-pub is_there : (code : Network) (model : network.World) (place : ℕ) (node : System) → Shows code model
+pub is_there : (code : Network) (model : network.LabelledNetwork) (place : ℕ) (node : System) → Shows code model
     → slice_get code.systems.items place ≡ Some node → IsThere code model place node
 is_there code model place node h here =
     let same = each_length code.systems.items model.systems h.systems in
@@ -77,33 +75,22 @@ no_frame = Unlabelled []
 pub takes : (old code : Network) (before after : Lines) (place : ℕ) (came : Origin) (content : Content) (node : System) (outputs : List output.Output) (effect : Effect)
     → place < length old.systems.items → clnp_systems.Stands node effect.after → effect.after.place ≡ place → IsMadeWithUnit came content
     → AllByRecursion (IsOwnWhereFirst effect.after) effect.outputs
-    → AppendsFor effect.after.moment content [] outputs effect.outputs
+    → Appends effect.after.moment (Some content) [] outputs effect.outputs
     → PutsOut (with_node old place node) code before after place came outputs
-    → (model : network.World) → Shows old model → Puts code before after (network.takes_effect model place effect)
+    → (model : network.LabelledNetwork) → Shows old model → Puts code before after (network.takes_effect model place effect)
 takes old code before after place came content node outputs effect within stands here born own gives puts model h =
     let same = each_length old.systems.items model.systems h.systems in
     puts (network.with_effect model place effect) effect.after content effect.outputs
     (shows_with old place node model effect h stands here)
     (slice_get-set model.systems place effect.after (omega arith)) born own
-    (subst (λ (os : List output.Output). GiveAllFor effect.after.moment content os effect.outputs) (sym gives.appended) gives.give_all)
+    (subst (λ (os : List output.Output). GiveAll effect.after.moment (Some content) os effect.outputs) (sym gives.appended) gives.give_all)
 
 -- outputs that are appended to none
 pub from_none_for : (moment : ℕ) (came : Content) (empty outputs : List output.Output) (others : List machine.Output) → empty ≡ []
-    → AppendsFor moment came empty outputs others → AppendsFor moment came [] outputs others
-from_none_for moment came empty outputs others e h = subst (λ (os : List output.Output). AppendsFor moment came os outputs others) e h
+    → Appends moment (Some came) empty outputs others → Appends moment (Some came) [] outputs others
+from_none_for moment came empty outputs others e h = subst (λ (os : List output.Output). Appends moment (Some came) os outputs others) e h
 
 -- Something comes to the system at a place.
-
--- what is given out is what a system gives out where a frame came, whatever came
-gives_any : (input : Input) (role : Role) (content : Content) (moment : ℕ) (before after : List output.Output) (others : List machine.Output)
-    → AppendsOf (input_with content input) role moment before after others → AppendsFor moment content before after others
-gives_any (coming.Moment now) role content moment before after others h = appends_for moment content before after others h
-gives_any (coming.Frame port from group frame) Host content moment before after others h = appends_for moment content before after others h
-gives_any (coming.Frame port from group frame) Router content moment before after others h = h
-gives_any (coming.Send from to body ask) role content moment before after others h = appends_for moment content before after others h
-gives_any (coming.Echo from to body) role content moment before after others h = appends_for moment content before after others h
-gives_any coming.Restart role content moment before after others h = appends_for moment content before after others h
-gives_any (coming.Congest on) role content moment before after others h = appends_for moment content before after others h
 
 moments_agree : (s : SystemState) (input : machine.Input) → moment_after s input ≡ moment_at input s.moment
 moments_agree s (machine.AsksToSend from to octets ask) = refl
@@ -135,7 +122,7 @@ comes_in : OwnTransmissions → (old code : Network) (before after : Lines) (pla
     (empty outputs : List output.Output) → slice_get old.systems.items place ≡ Some node → empty ≡ []
     → TakesStep role (input_with content input) (entity_of node) (entity_of new) empty outputs
     → PutsOut (with_node old place new) code before after place came outputs
-    → (model : network.World) → Shows old model → IsMadeWithUnit came content
+    → (model : network.LabelledNetwork) → Shows old model → IsMadeWithUnit came content
     → Puts code before after (network.comes model place (input_with content input))
 comes_in own old code before after place came content input role node new empty outputs here none took puts model h born =
     let there = is_there old model place node h here in
@@ -154,19 +141,19 @@ comes_in own old code before after place came content input role node new empty 
 
 -- there is no system at the place
 comes_nowhere : (code : Network) (lines : Lines) (place : ℕ) → length code.systems.items ≤ place
-    → (model : network.World) (input : machine.Input) → Shows code model → Puts code lines lines (network.comes model place input)
+    → (model : network.LabelledNetwork) (input : machine.Input) → Shows code model → Puts code lines lines (network.comes model place input)
 comes_nowhere code lines place past model input h =
     let same = each_length code.systems.items model.systems h.systems in
     let none = slice_get_past model.systems place (omega arith) in
     subst (λ (s : Option SystemState). Puts code lines lines (network.comes_to model place input s)) (sym none) (puts_nothing code model lines h)
 
-stays_behind : (model : network.World) (place : ℕ) (input : machine.Input) (there : Option SystemState) → NoneIsAhead model
+stays_behind : (model : network.LabelledNetwork) (place : ℕ) (input : machine.Input) (there : Option SystemState) → NoneIsAhead model
     → ((s : SystemState) → there ≡ Some s → (step s input).after.moment ≤ model.clock) → NoneIsAhead (network.comes_to model place input there).world
 stays_behind model place input None behind now = behind
 stays_behind model place input (Some s) behind now = behind-takes_effect model place (step s input) behind (now s refl)
 
 -- what comes where its moment isn't ahead leaves all clocks so
-pub comes_follows : (old code : Network) (before after : Lines) (place : ℕ) (input : machine.Input) (model : network.World) → Holds old model
+pub comes_follows : (old code : Network) (before after : Lines) (place : ℕ) (input : machine.Input) (model : network.LabelledNetwork) → Holds old model
     → IsTimely model place input → Puts code before after (network.comes model place input) → Follows code before after (network.comes model place input)
 comes_follows old code before after place input model h timely puts = record {
   holds = record {
@@ -182,7 +169,7 @@ pub comes_there : OwnTransmissions → (old code : Network) (before after : Line
     (empty outputs : List output.Output) → slice_get old.systems.items place ≡ Some node → empty ≡ []
     → TakesStep role (input_with content input) (entity_of node) (entity_of new) empty outputs
     → PutsOut (with_node old place new) code before after place came outputs
-    → (model : network.World) → Holds old model → IsMadeWithUnit came content → IsTimely model place (input_with content input)
+    → (model : network.LabelledNetwork) → Holds old model → IsMadeWithUnit came content → IsTimely model place (input_with content input)
     → Follows code before after (network.comes model place (input_with content input))
 comes_there own old code before after place came content input role node new empty outputs here none took puts model h born timely =
     comes_follows old code before after place (input_with content input) model h timely
@@ -190,13 +177,13 @@ comes_there own old code before after place came content input role node new emp
 
 -- and where there is none
 pub comes_to_none : (code : Network) (lines : Lines) (place : ℕ) → length code.systems.items ≤ place
-    → (model : network.World) (input : machine.Input) → Holds code model → IsTimely model place input
+    → (model : network.LabelledNetwork) (input : machine.Input) → Holds code model → IsTimely model place input
     → Follows code lines lines (network.comes model place input)
 comes_to_none code lines place past model input h timely =
     comes_follows code code lines lines place input model h timely (comes_nowhere code lines place past model input h.shows)
 
 -- no system's clock is ahead
-pub is_behind : (code : Network) (place : ℕ) (model : network.World) → Holds code model → (system : SystemState) → slice_get model.systems place ≡ Some system
+pub is_behind : (code : Network) (place : ℕ) (model : network.LabelledNetwork) → Holds code model → (system : SystemState) → slice_get model.systems place ≡ Some system
     → system.moment ≤ model.clock
 is_behind code place model h system at =
     AllByRecursion-slice_get (λ (s : SystemState). s.moment ≤ model.clock) model.systems place system at h.behind

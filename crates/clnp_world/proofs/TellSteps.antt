@@ -8,23 +8,23 @@ use Rattle.clnp_machine.specs.ClnpPlan.Journal.{Line, Late, Received}
 use Rattle.clnp_machine.specs.ClnpPlan.declared.config.Limits.{Limits}
 use Rattle.clnp_machine.specs.System.{SystemState, Output, Transmits, SendsEsis, Notes, Effect}
 use Rattle.clnp_machine.specs.Step.{step}
-use Rattle.clnp_network.specs.World as network
-use Rattle.clnp_network.specs.World.{World, Copy, Numbered, addressees_from, first_port, for_nobody, frame_to, give, give_each, give_to, hand_to, is_addressee, is_late, put_all_out, put_out, settle_copy, lose_copy, takes_effect, with_effect}
+use Rattle.clnp_network.specs.LabelledNetwork as network
+use Rattle.clnp_network.specs.LabelledNetwork.{LabelledNetwork, Copy, Numbered, addressees_from, first_port, for_nobody, frame_to, give, give_each, give_to, hand_to, is_addressee, is_late, put_all_out, put_out, settle_copy, lose_copy, takes_effect, with_effect}
 use Rattle.clnp_world.specs.Becoming.{GivesAsTold, TellsOnce, addressees_of, or_nobody, tells_of_copy, told_of_settled, told_to, told_to_each}
 use Rattle.clnp_world.proofs.ModelSteps.{Seat, seat_of, same_age, same_seat, seats-give, clock-give, cursor-give_each}
 
 -- nothing that a system gives out tells of a copy
-quiet_outputs : (system : SystemState) (w : World) (outputs : List Output) → filter tells_of_copy (put_all_out system w outputs).lines ≡ []
+quiet_outputs : (system : SystemState) (w : LabelledNetwork) (outputs : List Output) → filter tells_of_copy (put_all_out system w outputs).lines ≡ []
 quiet_outputs system w [] = refl
 quiet_outputs system w (Notes note ∷ outputs) = quiet_outputs system (put_out system w (Notes note)).world outputs
 quiet_outputs system w (Transmits port target packet ∷ outputs) = quiet_outputs system (put_out system w (Transmits port target packet)).world outputs
 quiet_outputs system w (SendsEsis port target value ∷ outputs) = quiet_outputs system (put_out system w (SendsEsis port target value)).world outputs
 
-quiet_effect : (w : World) (place : ℕ) (effect : Effect) → filter tells_of_copy (takes_effect w place effect).lines ≡ []
+quiet_effect : (w : LabelledNetwork) (place : ℕ) (effect : Effect) → filter tells_of_copy (takes_effect w place effect).lines ≡ []
 quiet_effect w place effect = quiet_outputs effect.after (with_effect w place effect) effect.outputs
 
 module _ (limits : Limits) (given : Numbered) where
-  given_to_one : (w : World) (place : ℕ) (system : SystemState) (found : Option SystemState) → found ≡ Some system → slice_get w.systems place ≡ found
+  given_to_one : (w : LabelledNetwork) (place : ℕ) (system : SystemState) (found : Option SystemState) → found ≡ Some system → slice_get w.systems place ≡ found
       → GivesAsTold limits given w place system
   given_to_one w place system found is there =
       let here : slice_get w.systems place ≡ Some system = there ∙ is in
@@ -46,11 +46,11 @@ module _ (limits : Limits) (given : Numbered) where
         }
       ]
 
-  pub gives_as_told : (w : World) (place : ℕ) (system : SystemState) → slice_get w.systems place ≡ Some system → GivesAsTold limits given w place system
+  pub gives_as_told : (w : LabelledNetwork) (place : ℕ) (system : SystemState) → slice_get w.systems place ≡ Some system → GivesAsTold limits given w place system
   gives_as_told w place system there = given_to_one w place system (Some system) refl there
 
   -- what is told of the copy where it is given to one system
-  told_once : (w : World) (place : ℕ) (system : SystemState) → slice_get w.systems place ≡ Some system
+  told_once : (w : LabelledNetwork) (place : ℕ) (system : SystemState) → slice_get w.systems place ≡ Some system
       → filter tells_of_copy (give limits given w place).lines ≡ told_to limits w given system ∷ []
   told_once w place system there =
       let told = gives_as_told w place system there in
@@ -63,7 +63,7 @@ module _ (limits : Limits) (given : Numbered) where
       ]
 
   -- it is the same of systems of the same configuration that are attached alike, at the same clock
-  told_alike : (v w : World) (x y : SystemState) → map seat_of v.systems ≡ map seat_of w.systems → v.clock ≡ w.clock → seat_of x ≡ seat_of y
+  told_alike : (v w : LabelledNetwork) (x y : SystemState) → map seat_of v.systems ≡ map seat_of w.systems → v.clock ≡ w.clock → seat_of x ≡ seat_of y
       → told_to limits v given x ≡ told_to limits w given y
   told_alike v w x y seated now e =
       ap (λ (late : Bool). cond late (Late x.moment x.configuration.name given.number)
@@ -73,8 +73,8 @@ module _ (limits : Limits) (given : Numbered) where
       (Received s.moment s.configuration.name given.number (first_port given.copy s.configuration.role s.attached.ports))) e
 
   -- and where it is given to each that it is for of some systems, from a place on
-  told_each : (w : World) (from : ℕ) (systems : List SystemState) → ((i : ℕ) → slice_get systems i ≡ slice_get w.systems (from + i))
-      → (v : World) → map seat_of v.systems ≡ map seat_of w.systems → v.clock ≡ w.clock
+  told_each : (w : LabelledNetwork) (from : ℕ) (systems : List SystemState) → ((i : ℕ) → slice_get systems i ≡ slice_get w.systems (from + i))
+      → (v : LabelledNetwork) → map seat_of v.systems ≡ map seat_of w.systems → v.clock ≡ w.clock
       → filter tells_of_copy (give_each limits given v (addressees_from from given.copy systems)).lines
       ≡ told_to_each limits w given (addressees_of given.copy systems)
   told_each w from [] same v seated now = refl
@@ -112,12 +112,12 @@ or_nobody_is now number copy tell from (system ∷ systems) =
       | inr isnt ↦ rw isnt (or_nobody_is now number copy tell (from + 1) systems)
     ]
 
-module _ (limits : Limits) (w : World) (copy : Copy) where
+module _ (limits : Limits) (w : LabelledNetwork) (copy : Copy) where
   settled_tells : filter tells_of_copy (settle_copy limits w (Some copy)).lines
       ≡ told_of_settled limits w (record { number = w.cursor + 1; copy = copy })
   settled_tells =
       let given : Numbered = record { number = w.cursor + 1; copy = copy } in
-      let next : World = record w { cursor = w.cursor + 1 } in
+      let next : LabelledNetwork = record w { cursor = w.cursor + 1 } in
       let places = addressees_from 0 copy w.systems in
       let each = told_each limits given w 0 w.systems (λ i. ap (slice_get w.systems) (let same : i ≡ 0 + i = omega arith in same)) next refl refl in
       filter-append tells_of_copy (for_nobody w.clock given.number places) (give_each limits given next places).lines

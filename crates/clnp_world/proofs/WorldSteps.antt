@@ -5,7 +5,7 @@ use Rattle.std.proofs.lemmas.Option.{slice_get_past, slice_get_within as within_
 use Rattle.clnp_machine.specs.ClnpPlan.Configuration.{SystemConfiguration}
 use Rattle.clnp_machine.specs.ClnpPlan.declared.config.Role.{Role}
 use Rattle.clnp_machine.specs.System.{SystemState}
-use Rattle.clnp_network.specs.World as network
+use Rattle.clnp_network.specs.LabelledNetwork as network
 use Rattle.clnp_systems.specs.Stands.{configuration_of}
 use Rattle.clnp_systems.specs.declared.system.System.{System}
 use Rattle.clnp_world.specs.State.{WorldState}
@@ -19,13 +19,13 @@ use Rattle.clnp_world.proofs.EachSteps.{each_at, each_length}
 abbrev pub going : Network → WorldState
 going code = record { network = state_of code; spent = false }
 
-pub stands_for : (code : Network) (model : network.World) → Holds code model → Stands (going code) model
+pub stands_for : (code : Network) (model : network.LabelledNetwork) → Holds code model → Stands (going code) model
 stands_for code model h = record { not_spent = refl; holds = h }
 
 -- The systems that were declared.
 
 -- a system at a place was declared there, in its role
-pub declared_at : (code : WorldState) (model : network.World) (at : ℕ) (node : System) (role : Role) → Stands code model
+pub declared_at : (code : WorldState) (model : network.LabelledNetwork) (at : ℕ) (node : System) (role : Role) → Stands code model
     → slice_get code.network.systems at ≡ Some node → (configuration_of node).role ≡ role → IsDeclared model at role
 declared_at code model at node role h here is =
     let same = each_length code.network.systems model.systems h.holds.shows.systems in
@@ -39,14 +39,14 @@ declared_at code model at node role h here is =
     }
 
 -- and in no other
-pub declared_once : (model : network.World) (at : ℕ) (role other : Role) → IsDeclared model at role → IsDeclared model at other → role ≡ other
+pub declared_once : (model : network.LabelledNetwork) (at : ℕ) (role other : Role) → IsDeclared model at role → IsDeclared model at other → role ≡ other
 declared_once model at role other one two =
     let found : Some one.system ≡ Some two.system = sym one.there ∙ two.there in
     let same : one.system ≡ two.system = cc in
     sym one.role_is ∙ ap (λ (s : SystemState). s.configuration.role) same ∙ two.role_is
 
 -- there is no system at the place
-pub declared_nowhere : (code : WorldState) (model : network.World) (at : ℕ) (role : Role) → Stands code model → length code.network.systems ≤ at
+pub declared_nowhere : (code : WorldState) (model : network.LabelledNetwork) (at : ℕ) (role : Role) → Stands code model → length code.network.systems ≤ at
     → IsDeclared model at role → ⊥
 declared_nowhere code model at role h past declared =
     let same = each_length code.network.systems model.systems h.holds.shows.systems in

@@ -3,10 +3,10 @@ use Rattle.std.specs.Prelude.{◌≡◌, ◌==◌, ℕ, if◌then◌else◌, Lis
 use Rattle.clnp_machine.specs.Change.{with_mtu}
 use Rattle.clnp_machine.specs.ClnpPlan.declared.config.PortConfig.{PortConfig}
 use Rattle.clnp_network.specs.Scenario.Scenario.{Subnetwork}
-use Rattle.clnp_network.specs.World.{World, ports_of, resizes}
+use Rattle.clnp_network.specs.LabelledNetwork.{LabelledNetwork, ports_of, resizes}
 
 -- the port of a number at the system at a place, as it is now
-abbrev pub port_at : World → (place number : ℕ) → Option PortConfig
+abbrev pub port_at : LabelledNetwork → (place number : ℕ) → Option PortConfig
 port_at w place number = slice_get (ports_of (slice_get w.systems place)) number
 
 -- a port, where the frames on a subnetwork may have so many octets from now on
@@ -15,6 +15,6 @@ fitted subnet mtu port = if port.subnet == subnet then with_mtu mtu port else po
 
 -- The frames of a subnetwork may be of another length: each port that is on it takes such frames, and every other port is as it
 -- was; so long are the frames of the ports that come to it later.
-pub record FitsEachPort (subnets : List Subnetwork) (w : World) (subnet mtu : ℕ) : Type 0 where
+pub record FitsEachPort (subnets : List Subnetwork) (w : LabelledNetwork) (subnet mtu : ℕ) : Type 0 where
   pub ports : (place number : ℕ) → port_at (resizes subnets w subnet mtu).world place number ≡ option_map (fitted subnet mtu) (port_at w place number)
   pub mtus : (resizes subnets w subnet mtu).world.mtus ≡ slice_set w.mtus subnet mtu

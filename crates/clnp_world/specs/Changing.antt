@@ -8,7 +8,7 @@ use Rattle.clnp_machine.specs.Forwarding.Distinct.{has_prefix}
 use Rattle.clnp_machine.specs.Forwarding.declared.route.Route.{Route}
 use Rattle.clnp_machine.specs.Step.{step}
 use Rattle.clnp_machine.specs.System.{IsChanged, SystemState}
-use Rattle.clnp_network.specs.World.{moved}
+use Rattle.clnp_network.specs.LabelledNetwork.{moved}
 use Rattle.clnp_systems.specs.Stands.{Stands}
 use Rattle.clnp_systems.specs.declared.system.System.{System}
 

@@ -2,7 +2,7 @@
 use Rattle.std.specs.Prelude.{◌≡◌, ◌≤◌, ◌+◌, ℕ, List, ◌++◌, slice_get, Some}
 use Rattle.clnp_machine.specs.System.{Input, SystemState}
 use Rattle.clnp_systems.specs.SystemEntity.Steps.{moment_at}
-use Rattle.clnp_network.specs.World as network
+use Rattle.clnp_network.specs.LabelledNetwork as network
 use Rattle.clnp_machine.specs.ClnpPlan.declared.journal.Telling.{Telling}
 use Rattle.clnp_network.specs.Run.{told_lines}
 use Rattle.clnp_world.specs.Lines.{Gains}
@@ -25,24 +25,25 @@ state_of code = record {
 }
 
 -- the network of the code is one of the model, whatever the clocks of its systems
-abbrev pub Shows : Network → network.World → Type 0
+abbrev pub Shows : Network → network.LabelledNetwork → Type 0
 Shows code model = seen.Shows (state_of code) model
 
 -- what comes to the system at a place leaves its clock where it isn't ahead of the network's
-abbrev pub IsTimely : network.World → (place : ℕ) → Input → Type 0
+abbrev pub IsTimely : network.LabelledNetwork → (place : ℕ) → Input → Type 0
 IsTimely model place input =
     (system : SystemState) → slice_get model.systems place ≡ Some system → moment_at input system.moment ≤ model.clock
 
 -- the clock of the system at a place may go on
-abbrev pub MayGoOn : network.World → (place : ℕ) → Type 0
-MayGoOn model place = (system : SystemState) → slice_get model.systems place ≡ Some system → system.moment + 1 ≤ model.clock
+abbrev pub MayGoOn : network.LabelledNetwork → (place : ℕ) → Type 0
+MayGoOn model place = (system : SystemState) → slice_get model.systems place ≡ Some system
+    → system.moment + 1 ≤ model.clock
 
 -- between two moves it is one of the model, in which no clock is ahead
-abbrev pub Holds : Network → network.World → Type 0
+abbrev pub Holds : Network → network.LabelledNetwork → Type 0
 Holds code model = seen.Holds (state_of code) model
 
 abbrev pub IsRunning : Network → Type 0
-IsRunning code = (model : network.World) × Holds code model
+IsRunning code = (model : network.LabelledNetwork) × Holds code model
 
 -- the network and its lines are those after a part of a move, whatever the clocks of its systems
 pub record Puts (code : Network) (before after : Lines) (part : network.Step) : Type 0 where
@@ -60,9 +61,9 @@ pub record FollowsIn (telling : Telling) (code : Network) (before after : List �
   pub text : after ≡ before ++ told_lines telling part.lines
 
 -- a part of a move that writes no lines was done
-abbrev pub Changes : Network → Network → (network.World → network.Step) → Type 0
+abbrev pub Changes : Network → Network → (network.LabelledNetwork → network.Step) → Type 0
 Changes before after part =
-    (model : network.World) (lines : Lines) → Holds before model → Follows after lines lines (part model)
+    (model : network.LabelledNetwork) (lines : Lines) → Holds before model → Follows after lines lines (part model)
 
 -- some copies were put behind the others, and weighed
 pub record PutsCopies (before after : Network) (made : List FrameCopy) : Type 0 where

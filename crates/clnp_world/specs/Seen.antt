@@ -6,7 +6,7 @@ use Rattle.clnp_machine.specs.ClnpPlan.declared.config.Role.{Role}
 use Rattle.clnp_machine.specs.Content.{frame_of}
 use Rattle.clnp_machine.specs.Unit.{Maker, DeclaredAt, Outside}
 use Rattle.clnp_machine.specs.System.{SystemState}
-use Rattle.clnp_network.specs.World.{Copy, first_port, is_addressee, reaches}
+use Rattle.clnp_network.specs.LabelledNetwork.{Copy, first_port, is_addressee, reaches}
 use Rattle.clnp_world.specs.declared.copy.FrameCopy.{FrameCopy}
 use Rattle.clnp_world.specs.declared.copy.Origin.{Origin}
 

@@ -8,7 +8,7 @@ use Rattle.clnp_machine.specs.ClnpPlan.declared.config.Role.{Role}
 use Rattle.clnp_systems.specs.declared.system.System.{System}
 use Rattle.clnp_systems.specs.Stands as clnp_systems
 use Rattle.clnp_network.specs.Clocks.{NoneIsAhead}
-use Rattle.clnp_network.specs.World as network
+use Rattle.clnp_network.specs.LabelledNetwork as network
 use Rattle.clnp_world.specs.Seen.{frame_copy, origin_of}
 use Rattle.clnp_world.specs.State.{NetworkState, WorldState}
 use Rattle.clnp_world.specs.declared.copy.FrameCopy.{FrameCopy}
@@ -21,7 +21,7 @@ abbrev pub StandEach : List System → List SystemState → Type 0
 StandEach nodes systems = AllZip clnp_systems.Stands nodes systems
 
 -- a system of a role was declared at a place
-pub record IsDeclared (model : network.World) (at : ℕ) (role : Role) : Type 0 where
+pub record IsDeclared (model : network.LabelledNetwork) (at : ℕ) (role : Role) : Type 0 where
   pub system : SystemState
   pub there : slice_get model.systems at ≡ Some system
   pub role_is : system.configuration.role ≡ role
@@ -33,7 +33,7 @@ IsMadeWithUnit origin (Esis value following) = Unit {0}
 IsMadeWithUnit origin (Unlabelled octets) = Unit {0}
 
 -- a network is one of the model, whatever the clocks of its systems
-pub record Shows (code : NetworkState) (model : network.World) : Type 0 where
+pub record Shows (code : NetworkState) (model : network.LabelledNetwork) : Type 0 where
   pub clock : code.clock ≡ model.clock
   pub systems : StandEach code.systems model.systems
   pub mtus : code.mtus ≡ model.mtus
@@ -51,17 +51,17 @@ pub record Shows (code : NetworkState) (model : network.World) : Type 0 where
   pub weight : code.weight ≡ network.weight model
 
 -- between two moves it is one of the model, in which no clock is ahead
-pub record Holds (code : NetworkState) (model : network.World) : Type 0 where
+pub record Holds (code : NetworkState) (model : network.LabelledNetwork) : Type 0 where
   pub shows : Shows code model
   pub behind : NoneIsAhead model
 
-pub record Stands (code : WorldState) (model : network.World) : Type 0 where
+pub record Stands (code : WorldState) (model : network.LabelledNetwork) : Type 0 where
   pub not_spent : code.spent ≡ false
   pub holds : Holds code.network model
 
 -- What is always so of a simulated network: while it isn't spent, it stands for one of the model.
 abbrev pub IsSound : WorldState → Type 0
-IsSound code = code.spent ≡ false → (model : network.World) × Stands code model
+IsSound code = code.spent ≡ false → (model : network.LabelledNetwork) × Stands code model
 
 -- a move isn't made where the network is full, exactly there; and then nothing changes
 abbrev pub IsLeftBy : WorldRefusal → WorldState → WorldState → Type 0
@@ -69,7 +69,7 @@ IsLeftBy (WorldFull octets) before after = after ≡ before
 IsLeftBy NoMemory before after = after.spent ≡ true
 
 -- the answer says whether the network was full before the move, and how much it weighed
-abbrev pub TellsFull : {A : Type 0} → network.World → Result A WorldRefusal → Type 0
+abbrev pub TellsFull : {A : Type 0} → network.LabelledNetwork → Result A WorldRefusal → Type 0
 TellsFull model (Ok made) = network.is_full model ≡ false
 TellsFull model (Err (WorldFull octets)) = (network.is_full model ≡ true) × (octets ≡ network.weight model)
 TellsFull model (Err NoMemory) = Unit {0}

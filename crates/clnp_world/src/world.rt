@@ -2,7 +2,7 @@
 ghost use Rattle.std.specs.Prelude.{◌≡◌, ◌+◌, ◌<◌, ◌≤◌, ◌^◌, ℕ, ◌++◌, IfErr, IfNone, IfOk, IfSome, Err, MatchOption, OnOk, OnErr, Some, false, length, nat_le, slice_get, true};
 ghost use Rattle.clnp_machine.specs.System.{SystemState};
 ghost use Rattle.clnp_network.specs.Run.{told_lines, world_end};
-ghost use Rattle.clnp_network.specs.World as network;
+ghost use Rattle.clnp_network.specs.LabelledNetwork as network;
 ghost use Rattle.clnp_machine.specs.ClnpPlan.declared.config.Role.TheVariants as role;
 ghost use Rattle.clnp_systems.specs.Stands.{configuration_of};
 ghost use Rattle.clnp_systems.specs.declared.system.System.{System};
@@ -96,11 +96,11 @@ impl World {
     ) -> Result<(), WorldRefusal>
         requires { self.old.network.clock + 1 < 2 ^ 62 }
         // Whatever network of the model this one stands for, it stands for the one after the move.
-        ensures stands { OnOk result ((model : network.World) → Stands self.old model
+        ensures stands { OnOk result ((model : network.LabelledNetwork) → Stands self.old model
             → Stands self.new (network.after scenario.now model mv.now).world) }
-        ensures lines { OnOk result ((model : network.World) → Stands self.old model
+        ensures lines { OnOk result ((model : network.LabelledNetwork) → Stands self.old model
             → out.new.items ≡ out.old.items ++ told_lines telling (network.after scenario.now model mv.now).lines) }
-        ensures full { (model : network.World) → Stands self.old model → TellsFull model result }
+        ensures full { (model : network.LabelledNetwork) → Stands self.old model → TellsFull model result }
         ensures same { OnErr result (out.new.items ≡ out.old.items) }
         ensures left { IfErr result (λ e. IsLeftBy e self.old self.new) }
         ensures clock { OnErr result (self.new.network.clock ≡ self.old.network.clock) }
@@ -135,11 +135,11 @@ impl World {
         counts: &mut Counts,
     ) -> Result<(), WorldRefusal>
         requires { self.old.network.clock + 1 < 2 ^ 62 }
-        ensures stands { OnOk result ((model : network.World) → Stands self.old model
+        ensures stands { OnOk result ((model : network.LabelledNetwork) → Stands self.old model
             → Stands self.new (network.after scenario.now model mv.now).world) }
-        ensures counted { OnOk result ((model : network.World) → Stands self.old model
+        ensures counted { OnOk result ((model : network.LabelledNetwork) → Stands self.old model
             → counts.new ≡ both counts.old (tally (network.after scenario.now model mv.now).lines)) }
-        ensures full { (model : network.World) → Stands self.old model → TellsFull model result }
+        ensures full { (model : network.LabelledNetwork) → Stands self.old model → TellsFull model result }
         ensures same { OnErr result (counts.new ≡ counts.old) }
         ensures left { IfErr result (λ e. IsLeftBy e self.old self.new) }
         ensures clock { OnErr result (self.new.network.clock ≡ self.old.network.clock) }
@@ -160,7 +160,7 @@ impl World {
     /// Whether a move may be made: memory was never refused, and the copies don't weigh too much.
     fn may_move(&self) -> Result<(), WorldRefusal>
         ensures spent { OnOk result (self.now.spent ≡ false) }
-        ensures full { (model : network.World) → Stands self.now model → TellsFull model result }
+        ensures full { (model : network.LabelledNetwork) → Stands self.now model → TellsFull model result }
         ensures left { IfErr result (λ e. IsLeftBy e self.now self.now) }
         ensures refused { self.now.spent ≡ true → result ≡ Err WantsMemory }
     {
@@ -177,7 +177,8 @@ impl World {
     /// Whether each copy was settled or lost: to settle or to lose one more changes nothing then.
     pub fn is_settled(&self) -> bool
         ensures settled { result ≡ nat_le (length self.now.network.copies) self.now.network.cursor }
-        ensures stands { (model : network.World) → Stands self.now model → result ≡ nat_le (length model.copies) model.cursor }
+        ensures stands { (model : network.LabelledNetwork) → Stands self.now model
+            → result ≡ nat_le (length model.copies) model.cursor }
     {
         self.network.cursor >= self.network.copies.len()
     }
@@ -185,33 +186,33 @@ impl World {
     /// The clock, in ticks of 500 ms.
     pub fn clock(&self) -> u64
         ensures clock { result ≡ self.now.network.clock }
-        ensures stands { (model : network.World) → Stands self.now model → result ≡ model.clock }
+        ensures stands { (model : network.LabelledNetwork) → Stands self.now model → result ≡ model.clock }
     {
         self.network.clock
     }
 
     /// How many copies of frames were made.
     pub fn copies(&self) -> u64
-        ensures { (model : network.World) → Stands self.now model → result ≡ length model.copies }
+        ensures { (model : network.LabelledNetwork) → Stands self.now model → result ≡ length model.copies }
     {
         self.network.copies.len() as u64
     }
 
     /// What the copies weigh: the octets of their frames, and 64 for each.
     pub fn weight(&self) -> u64
-        ensures { (model : network.World) → Stands self.now model → result ≡ network.weight model }
+        ensures { (model : network.LabelledNetwork) → Stands self.now model → result ≡ network.weight model }
     {
         self.network.weight
     }
 
     /// The host that was declared at a place, from 0; none where no system was, or a router.
     pub fn host(&self, at: usize) -> Option<&EndSystem>
-        ensures declared { (model : network.World) → Stands self.now model
+        ensures declared { (model : network.LabelledNetwork) → Stands self.now model
             → MatchOption result (IsDeclared model at role.Host → ⊥) (λ host. IsDeclared model at role.Host) }
         ensures none { IfNone result ((system : System) → slice_get self.now.network.systems at ≡ Some system
             → (configuration_of system).role ≡ role.Router) }
         ensures host { IfSome result (λ host. slice_get self.now.network.systems at ≡ Some (variant.Host host.now)) }
-        ensures stands { IfSome result (λ host. (model : network.World) → Stands self.now model
+        ensures stands { IfSome result (λ host. (model : network.LabelledNetwork) → Stands self.now model
             → (system : SystemState) → slice_get model.systems at ≡ Some system → end_system.Stands host.now system) }
     {
         match self.network.systems.get(at) {
@@ -222,13 +223,14 @@ impl World {
 
     /// The router that was declared at a place, from 0; none where no system was, or a host.
     pub fn router(&self, at: usize) -> Option<&Router>
-        ensures declared { (model : network.World) → Stands self.now model
+        ensures declared { (model : network.LabelledNetwork) → Stands self.now model
             → MatchOption result (IsDeclared model at role.Router → ⊥) (λ router. IsDeclared model at role.Router) }
         ensures none { IfNone result ((system : System) → slice_get self.now.network.systems at ≡ Some system
             → (configuration_of system).role ≡ role.Host) }
         ensures router { IfSome result (λ router. slice_get self.now.network.systems at ≡ Some (variant.Router router.now)) }
-        ensures stands { IfSome result (λ router. (model : network.World) → Stands self.now model
-            → (system : SystemState) → slice_get model.systems at ≡ Some system → router_stands.Stands router.now system) }
+        ensures stands { IfSome result (λ router. (model : network.LabelledNetwork) → Stands self.now model
+            → (system : SystemState) → slice_get model.systems at ≡ Some system
+            → router_stands.Stands router.now system) }
     {
         match self.network.systems.get(at) {
             Some(system) => system.as_router(),
@@ -242,7 +244,7 @@ impl World {
     ///
     /// `NoMemory`; the journal is then as it was.
     pub fn finish(&self, alloc: Global, journal: &mut Vec<u8>) -> Result<(), NoMemory>
-        ensures written { OnOk result ((model : network.World) → Stands self.now model
+        ensures written { OnOk result ((model : network.LabelledNetwork) → Stands self.now model
             → journal.new.items ≡ journal.old.items ++ world_end model) }
         ensures same { OnErr result (journal.new.items ≡ journal.old.items) }
     {

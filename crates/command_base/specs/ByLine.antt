@@ -33,8 +33,10 @@ task_of w first lines = record {
 
 -- None of these lines is bad, they call for this output, and lines behind them for output behind it.
 pub record Good (w : Work) (first now : w.Point) (made : List (List ℕ)) (output : List ℕ) : Type 0 where
-  pub behind : (ending : w.Ending) (later : List (List ℕ)) (rest : List ℕ) → w.calls ending later now rest → w.calls ending (made ++ later) first (output ++ rest)
-  pub answer : (later : List (List ℕ)) (answered : Status) → w.answer later now answered → w.answer (made ++ later) first answered
+  pub behind : (ending : w.Ending) (later : List (List ℕ)) (rest : List ℕ) → w.calls ending later now rest
+      → w.calls ending (made ++ later) first (output ++ rest)
+  pub answer : (later : List (List ℕ)) (answered : Status) → w.answer later now answered
+      → w.answer (made ++ later) first answered
 
 -- The line with this number is bad, with this code.
 pub record Bad (w : Work) (now : w.Point) (line : List ℕ) (number code : ℕ) : Type 0 where
@@ -42,7 +44,8 @@ pub record Bad (w : Work) (now : w.Point) (line : List ℕ) (number code : ℕ) 
   pub answer : (later : List (List ℕ)) → w.answer (line ∷ later) now (status.BadInput number code)
 
 -- What putting a line into a block comes to.
-abbrev pub PushOf : {A : Type 0} → (w : Work) → w.Point → (A → w.Point) → ℕ → List ℕ → List ℕ → List ℕ → Result A LineFault → Type 0
+abbrev pub PushOf : {A : Type 0} → (w : Work) → w.Point → (A → w.Point) → ℕ → List ℕ → List ℕ → List ℕ
+    → Result A LineFault → Type 0
 PushOf w now next number line old new (Ok x) = (output : List ℕ) × Good w now (next x) (line ∷ []) output × (new ≡ old ++ output)
 PushOf w now next number line old new (Err (fault.Bad code)) = Bad w now line number code × (new ≡ old)
 PushOf w now next number line old new (Err fault.NoMemory) = Unit {0}
@@ -111,7 +114,8 @@ StopOf w first all number before after WriteFault = CutOff w first all before af
 StopOf w first all number before after NoMemory = LeftOff w first all before after
 
 -- What the next line comes to, which has this number.
-abbrev pub NextOf : {A : Type 0} → (w : Work) → w.Point → (A → w.Point) → List (List ℕ) → List (List ℕ) → ℕ → Option (List ℕ) → Option (List ℕ) → List ℕ → Result A LineStop → Type 0
+abbrev pub NextOf : {A : Type 0} → (w : Work) → w.Point → (A → w.Point) → List (List ℕ) → List (List ℕ) → ℕ
+    → Option (List ℕ) → Option (List ℕ) → List ℕ → Result A LineStop → Type 0
 NextOf w first next all left number before after block (Ok x) = Midway w first (next x) all left before after block
 NextOf w first next all left number before after block (Err stop) = StopOf w first all number before after stop
 

@@ -1,7 +1,7 @@
 -- What comes of a packet for another address, at a host.
 use Rattle.std.proofs.Common.{◌≡◌, ◌∙◌, refl, sym, ap, subst, ℕ, Bool, true, false, List, [], ◌∷◌, if◌then◌else◌}
 use Rattle.std.specs.Prelude.{◌==◌, ◌&&◌, not}
-use Rattle.clnp_machine.specs.EsisTables.declared.fact.Place.{Place}
+use Rattle.clnp_machine.specs.EsisTables.declared.fact.Neighbour.{Neighbour}
 use Rattle.clnp_machine.specs.ClnpOptions.Reasons.{reason_code}
 use Rattle.clnp_machine.specs.ClnpOptions.declared.reasons.Reason.TheVariants.{LifetimeExpiredInTransit}
 use Rattle.clnp_machine.specs.ClnpPlan.declared.config.Role.{Role}
@@ -22,14 +22,14 @@ asks_no_other true true own e = refl
 asks_no_other true false own e = e
 asks_no_other false over own e = refl
 
-is_quiet : (s : SystemState) (place : Place) (group : Bool) (p : Packet) → s.configuration.role ≡ Host → is_own s p.unit.destination ≡ false
-    → responds s place group p ≡ idles s
-is_quiet s place group p role other =
-    ap (λ (r : Role). if is_asked_for r s group p then tells_of_itself s place.port place.snpa else idles s) role
-    ∙ ap (λ (b : Bool). if b then tells_of_itself s place.port place.snpa else idles s)
+is_quiet : (s : SystemState) (neighbour : Neighbour) (group : Bool) (p : Packet) → s.configuration.role ≡ Host → is_own s p.unit.destination ≡ false
+    → responds s neighbour group p ≡ idles s
+is_quiet s neighbour group p role other =
+    ap (λ (r : Role). if is_asked_for r s group p then tells_of_itself s neighbour.port neighbour.snpa else idles s) role
+    ∙ ap (λ (b : Bool). if b then tells_of_itself s neighbour.port neighbour.snpa else idles s)
     (asks_no_other group (p.lifetime == 0) (is_own s p.unit.destination) other)
 
-is_noted : (s : SystemState) (came : Place) (p : Packet) (following : List ℕ) → s.configuration.role ≡ Host → (p.lifetime == 0) ≡ false
+is_noted : (s : SystemState) (came : Neighbour) (p : Packet) (following : List ℕ) → s.configuration.role ≡ Host → (p.lifetime == 0) ≡ false
     → is_own s p.unit.destination ≡ false → packet_comes s came p following ≡ effect_of (tells s (NotMine p.unit.destination))
 is_noted s came p following role alive other =
     ap (λ (b : Bool). if b then discards s p following (reason_code LifetimeExpiredInTransit)
@@ -37,19 +37,19 @@ is_noted s came p following role alive other =
     ∙ ap (λ (b : Bool). if b then effect_of (receive s p following) else passes_by s.configuration.role s came p following) other
     ∙ ap (λ (r : Role). passes_by r s came p following) role
 
-passes : (s : SystemState) (place : Place) (group : Bool) (p : Packet) (following : List ℕ) → s.configuration.role ≡ Host
+passes : (s : SystemState) (neighbour : Neighbour) (group : Bool) (p : Packet) (following : List ℕ) → s.configuration.role ≡ Host
     → (p.lifetime == 0) ≡ false → is_own s p.unit.destination ≡ false
-    → content_comes s place group (Labelled p following) ≡ gives s (Notes (NotMine p.unit.destination) ∷ [])
-passes s place group p following role alive other =
-    ap (λ (effect : Effect). then_does effect (λ t. responds t place group p)) (is_noted s place p following role alive other)
+    → content_comes s neighbour group (Labelled p following) ≡ gives s (Notes (NotMine p.unit.destination) ∷ [])
+passes s neighbour group p following role alive other =
+    ap (λ (effect : Effect). then_does effect (λ t. responds t neighbour group p)) (is_noted s neighbour p following role alive other)
     ∙ ap (λ (effect : Effect). then_does (effect_of (tells s (NotMine p.unit.destination))) (λ t. effect))
-    (is_quiet s place group p role other)
+    (is_quiet s neighbour group p role other)
 
 -- it is noted, and nothing else is done
-pub passed : (s : SystemState) (place : Place) (group : Bool) (content : Content) (passing : Passing) → IsForOther s content passing
-    → s.configuration.role ≡ Host → content_comes s place group content ≡ gives s (Notes (NotMine passing.to) ∷ [])
-passed s place group content passing other role =
-    subst (λ (c : Content). content_comes s place group c ≡ gives s (Notes (NotMine passing.to) ∷ [])) (sym other.content_is)
-    (subst (λ (t : List ℕ). content_comes s place group (Labelled other.packet other.following) ≡ gives s (Notes (NotMine t) ∷ []))
+pub passed : (s : SystemState) (neighbour : Neighbour) (group : Bool) (content : Content) (passing : Passing) → IsForOther s content passing
+    → s.configuration.role ≡ Host → content_comes s neighbour group content ≡ gives s (Notes (NotMine passing.to) ∷ [])
+passed s neighbour group content passing other role =
+    subst (λ (c : Content). content_comes s neighbour group c ≡ gives s (Notes (NotMine passing.to) ∷ [])) (sym other.content_is)
+    (subst (λ (t : List ℕ). content_comes s neighbour group (Labelled other.packet other.following) ≡ gives s (Notes (NotMine t) ∷ []))
     other.has_value.destination
-    (passes s place group other.packet other.following role other.alive other.not_own))
+    (passes s neighbour group other.packet other.following role other.alive other.not_own))

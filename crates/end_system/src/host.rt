@@ -12,7 +12,8 @@ ghost use Rattle.clnp_machine.specs.ClnpPlan.declared.config.Role.TheVariants.{H
 ghost use Rattle.clnp_machine.specs.Content.{Content, IsCarried, frame_of};
 ghost use Rattle.clnp_machine.specs.Given.{Appends};
 ghost use Rattle.clnp_machine.specs.Local.{refusal, request_unit, unit_of};
-ghost use Rattle.clnp_machine.specs.Step.{Hop, next_hop, step};
+ghost use Rattle.clnp_machine.specs.Step.{next_hop, step};
+ghost use Rattle.clnp_machine.specs.declared.way.Hop.{Hop};
 ghost use Rattle.clnp_machine.specs.System.{SystemState, AsksForEcho, AsksToSend, FrameComes, IsChanged, IsRestarted, IsCongested, MomentComes, first_state, next_number};
 ghost use Rattle.system_entity.specs.LocalEntity.Local.{IsWhy};
 ghost use Rattle.system_entity.specs.Steps.{Carries, IsSpentIn, MayCome, TakesStep, input_with};
@@ -21,7 +22,7 @@ ghost use Rattle.end_system.specs.Stands.{IsLeftBy, Stands};
 use clnp_machine::clnp_base::NoMemory;
 use clnp_machine::clnp_plan::{Ask, Limits, Note, Output, PortConfig, SendRefusal, SystemConfig};
 use clnp_machine::clnp_views::Frame;
-use clnp_machine::esis_tables::Place;
+use clnp_machine::esis_tables::Neighbour;
 use clnp_machine::nsap::{Address, Snpa, Target};
 use clnp_machine::pdu_header::Kind;
 use std::alloc::Global;
@@ -152,8 +153,8 @@ impl EndSystem {
         ensures spent { OnErr result (IsSpentIn self.old.entity self.new.entity out.old.items out.new.items) }
         ensures refused { self.old.entity.spent ≡ true → IsErr result }
     {
-        let place = Place { port, snpa: from };
-        match self.entity.frame(alloc, place, group, frame, out)? {
+        let neighbour = Neighbour { port, snpa: from };
+        match self.entity.frame(alloc, neighbour, group, frame, out)? {
             Arrival::Done => Ok(()),
             Arrival::Passes(passing) => self.entity.note(Note::NotMine { to: passing.to }, out),
         }
@@ -183,7 +184,8 @@ impl EndSystem {
             (λ e. IsWhy e (refusal s (unit_of s Dt from to body.now ask.now))) }
         ensures stands { OnOk result ((s : SystemState) → Stands self.old s → Stands self.new (step s (AsksToSend from to body.now ask.now)).after) }
         ensures outputs { OnOk result ((s : SystemState) → Stands self.old s
-            → Appends self.old.entity.moment out.old.items out.new.items (step s (AsksToSend from to body.now ask.now)).outputs) }
+            → Appends self.old.entity.moment None out.old.items out.new.items
+            (step s (AsksToSend from to body.now ask.now)).outputs) }
         ensures none { OnErr result (out.new.items ≡ out.old.items) }
         ensures left { IfErr result (λ e. IsLeftBy e self.old self.new) }
         ensures refused { self.old.entity.spent ≡ true → result ≡ Err WantsMemory }
@@ -215,7 +217,8 @@ impl EndSystem {
             (λ e. IsWhy e (refusal s (request_unit s from to body.now))) }
         ensures stands { OnOk result ((s : SystemState) → Stands self.old s → Stands self.new (step s (AsksForEcho from to body.now)).after) }
         ensures outputs { OnOk result ((s : SystemState) → Stands self.old s
-            → Appends self.old.entity.moment out.old.items out.new.items (step s (AsksForEcho from to body.now)).outputs) }
+            → Appends self.old.entity.moment None out.old.items out.new.items
+            (step s (AsksForEcho from to body.now)).outputs) }
         ensures none { OnErr result (out.new.items ≡ out.old.items) }
         ensures left { IfErr result (λ e. IsLeftBy e self.old self.new) }
         ensures refused { self.old.entity.spent ≡ true → result ≡ Err WantsMemory }
@@ -265,7 +268,8 @@ impl EndSystem {
     pub fn set_port(&mut self, config: PortConfig)
         requires transit { 1 ≤ config.transit }
         requires mtu { 512 ≤ config.mtu }
-        ensures stands { (s : SystemState) → Stands self.old s → Stands self.new (step s (IsChanged (PortIsAt 0 config))).after }
+        ensures stands { (s : SystemState) → Stands self.old s
+            → Stands self.new (step s (IsChanged (PortIsAt 0 config))).after }
         ensures set { self.new.entity ≡ record self.old.entity {
           ports = slice_set self.old.entity.ports 0 config;
           esis = record self.old.entity.esis { next_hello = self.old.entity.moment };
@@ -283,7 +287,8 @@ impl EndSystem {
     /// Its port takes frames of so many octets from now on.
     pub fn set_mtu(&mut self, mtu: u16)
         requires { 512 ≤ mtu }
-        ensures stands { (s : SystemState) → Stands self.old s → Stands self.new (step s (IsChanged (PortTakes 0 mtu))).after }
+        ensures stands { (s : SystemState) → Stands self.old s
+            → Stands self.new (step s (IsChanged (PortTakes 0 mtu))).after }
         ensures set { self.new.entity ≡ record self.old.entity {
           ports = ports_taking 0 mtu (slice_get self.old.entity.ports 0) self.old.entity.ports;
         } }
@@ -315,7 +320,8 @@ impl EndSystem {
     /// Where it sends a PDU for an address, on its one port: to the better hop of a redirect, to the end system of the
     /// address, to the router that it heard last, or else to all end systems (ISO 9542, section 6.5).
     pub fn next_hop(&self, to: &Address) -> Target
-        ensures { (s : SystemState) → Stands self.now s → (port : ℕ) × (next_hop s to.now ≡ Some (record { port = port; target = result })) }
+        ensures { (s : SystemState) → Stands self.now s
+            → (port : ℕ) × (next_hop s to.now ≡ Some (record { port = port; target = result })) }
     {
         match self.entity.next_hop(to) {
             Some(hop) => hop.target,

@@ -1,5 +1,5 @@
 -- What the entity's parts do.
-use Rattle.std.specs.Prelude.{◌≡◌, ℕ, Bool, List, length, take}
+use Rattle.std.specs.Prelude.{◌≡◌, ℕ, Bool, List, length, take, None}
 use Rattle.std.specs.List.{list_any}
 use Rattle.clnp_machine.specs.ClnpPlan.declared.output.Output.{Output}
 use Rattle.clnp_machine.specs.Esis.{tells_new}
@@ -11,7 +11,7 @@ use Rattle.esis_entity.specs.State.{EsisState}
 -- the entity stands for the state that an effect leaves, and what the effect gives out was appended
 pub record Does (moment : ℕ) (entity : EsisState) (before after : List Output) (effect : Effect) : Type 0 where
   pub stands : Stands entity effect.after
-  pub appends : Appends moment before after effect.outputs
+  pub appends : Appends moment None before after effect.outputs
 
 -- and it is said whether something new was heard
 pub record Hears (moment : ℕ) (entity : EsisState) (before after : List Output) (new : Bool) (effect : Effect)

@@ -1,5 +1,5 @@
 //! The configuration entity of a system.
-ghost use Rattle.std.specs.Prelude.{◌≡◌, ◌≤◌, ◌<◌, ◌^◌, ℕ, IfOk, OnOk, OnErr, length};
+ghost use Rattle.std.specs.Prelude.{◌≡◌, ◌≤◌, ◌<◌, ◌^◌, ℕ, IfOk, OnOk, OnErr, length, None};
 ghost use Rattle.clnp_machine.specs.ClnpOptions.Parameter.{parameters};
 ghost use Rattle.clnp_machine.specs.EsisPdus.Value.{suggested};
 ghost use Rattle.clnp_machine.specs.EsisPdus.View.{pdu_value};
@@ -16,7 +16,7 @@ ghost use Rattle.esis_entity.specs.Stands.{Stands, StandsSince};
 use clnp_machine::clnp_base::NoMemory;
 use clnp_machine::clnp_plan::{Output, SystemConfig};
 use clnp_machine::esis_pdus::EsisPdu;
-use clnp_machine::esis_tables::{EsisLimits, Place, Tables};
+use clnp_machine::esis_tables::{EsisLimits, Neighbour, Tables};
 use clnp_machine::nsap::{Address, Target};
 use hellos::hello;
 use output::send;
@@ -82,21 +82,21 @@ impl EsisEntity {
         &mut self,
         config: &SystemConfig,
         now: u64,
-        place: Place,
+        neighbour: Neighbour,
         pdu: EsisPdu<'_>,
         out: &mut Vec<Output>,
     ) -> Result<(), NoMemory>
         requires moment { now < 2 ^ 62 }
         requires timer { pdu.suggested ≡ suggested pdu.body (parameters pdu.options.now) }
         ensures stands { OnOk result ((s : SystemState) → Stands self.old s → s.configuration ≡ config.now
-            → s.moment ≡ now → Stands self.new (esis_comes s place (pdu_value pdu.entry)).after) }
+            → s.moment ≡ now → Stands self.new (esis_comes s neighbour (pdu_value pdu.entry)).after) }
         ensures outputs { OnOk result ((s : SystemState) → Stands self.old s → s.configuration ≡ config.now
             → s.moment ≡ now
-            → Appends now out.old.items out.new.items (esis_comes s place (pdu_value pdu.entry)).outputs) }
+            → Appends now None out.old.items out.new.items (esis_comes s neighbour (pdu_value pdu.entry)).outputs) }
         ensures none { OnErr result (out.new.items ≡ out.old.items) }
     {
         let before = out.len();
-        if let Err(refused) = self.hear_in_role(config, now, place, pdu, out) {
+        if let Err(refused) = self.hear_in_role(config, now, neighbour, pdu, out) {
             out.truncate(before);
             return Err(refused);
         }
@@ -111,19 +111,20 @@ impl EsisEntity {
     pub fn tell(
         &self,
         config: &SystemConfig,
-        place: Place,
+        neighbour: Neighbour,
         out: &mut Vec<Output>,
     ) -> Result<(), NoMemory>
         ensures told { OnOk result ((s : SystemState) (moment : ℕ) → Stands self.now s → s.configuration ≡ config.now
-            → Appends moment out.old.items out.new.items (tells_of_itself s place.port place.snpa).outputs) }
+            → Appends moment None out.old.items out.new.items
+            (tells_of_itself s neighbour.port neighbour.snpa).outputs) }
         ensures none { OnErr result (out.new.items ≡ out.old.items) }
         ensures front { StaysInFront out.old.items out.new.items }
     {
         if self.period == 0 {
             return Ok(());
         }
-        let to = Target::System(place.snpa);
-        send(place.port, to, hello(config, self.period), out)
+        let to = Target::System(neighbour.snpa);
+        send(neighbour.port, to, hello(config, self.period), out)
     }
 
     /// A moment has come: what has ended since the last one is forgotten, and the hello that is due is said (sections
@@ -145,7 +146,7 @@ impl EsisEntity {
             → Stands self.new (then_does (forgets before s) says_hello).after) }
         ensures outputs { OnOk result ((s : SystemState) (before : ℕ) → StandsSince before self.old s
             → s.configuration ≡ config.now → length s.attached.ports ≡ ports → s.moment ≡ now → before ≤ now
-            → Appends now out.old.items out.new.items (then_does (forgets before s) says_hello).outputs) }
+            → Appends now None out.old.items out.new.items (then_does (forgets before s) says_hello).outputs) }
         ensures none { OnErr result (out.new.items ≡ out.old.items) }
     {
         let before = out.len();
@@ -175,23 +176,23 @@ impl EsisEntity {
 
     /// Where an end system sends what is for an address: the better hop of a redirect, the end system of this address,
     /// or the intermediate system that was heard last (section 6.5).
-    pub fn next_hop(&self, now: u64, to: &Address) -> Option<Place>
+    pub fn next_hop(&self, now: u64, to: &Address) -> Option<Neighbour>
         ensures { (s : SystemState) (before : ℕ) → StandsSince before self.now s → before ≤ now
             → result ≡ heard.next_hop now to.now s.facts }
     {
-        if let Some(place) = self.tables.redirect(now, to) {
-            return Some(place);
+        if let Some(neighbour) = self.tables.redirect(now, to) {
+            return Some(neighbour);
         }
-        if let Some(place) = self.tables.system(now, to) {
-            return Some(place);
+        if let Some(neighbour) = self.tables.system(now, to) {
+            return Some(neighbour);
         }
         self.tables.last_router(now)
     }
 
     /// Where the end system of an address is reached, if it is known.
-    pub fn neighbour(&self, now: u64, to: &Address) -> Option<Place>
+    pub fn neighbour(&self, now: u64, to: &Address) -> Option<Neighbour>
         ensures { (s : SystemState) (before : ℕ) → StandsSince before self.now s → before ≤ now
-            → result ≡ heard.current_place now Es to.now s.facts }
+            → result ≡ heard.current_neighbour now Es to.now s.facts }
     {
         self.tables.system(now, to)
     }

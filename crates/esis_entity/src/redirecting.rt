@@ -1,5 +1,5 @@
 //! What a router tells of better ways (ISO 9542, section 6.8).
-ghost use Rattle.std.specs.Prelude.{◌≡◌, ◌∷◌, [], OnOk, OnErr, ℕ};
+ghost use Rattle.std.specs.Prelude.{◌≡◌, ◌∷◌, [], OnOk, OnErr, ℕ, None};
 ghost use Rattle.std.specs.Option.{option_copied};
 ghost use Rattle.clnp_machine.specs.Nsap.declared.target.Target.TheVariants.{System};
 ghost use Rattle.clnp_machine.specs.Esis.{redirect};
@@ -10,7 +10,7 @@ use crate::entity::output::send;
 use clnp_machine::clnp_base::NoMemory;
 use clnp_machine::clnp_plan::{Output, SystemConfig};
 use clnp_machine::esis_pdus::rd;
-use clnp_machine::esis_tables::Place;
+use clnp_machine::esis_tables::Neighbour;
 use clnp_machine::nsap::{Address, Snpa, Target};
 
 /// A system tells another, at a place of its own, of the better way to an address: the next system's address on that subnetwork,
@@ -22,18 +22,18 @@ use clnp_machine::nsap::{Address, Snpa, Target};
 /// `NoMemory`: `out` is then as it was.
 pub fn send_redirect(
     config: &SystemConfig,
-    place: Place,
+    neighbour: Neighbour,
     to: &Address,
     via: &Snpa,
     title: Option<&Address>,
     out: &mut Vec<Output>,
 ) -> Result<(), NoMemory>
     ensures told { OnOk result ((s : SystemState) (moment : ℕ) → s.configuration ≡ config.now
-        → Appends moment out.old.items out.new.items
-        (SendsEsis place.port (System place.snpa) (redirect s to.now via.now (option_copied title.entry)) ∷ [])) }
+        → Appends moment None out.old.items out.new.items
+        (SendsEsis neighbour.port (System neighbour.snpa) (redirect s to.now via.now (option_copied title.entry)) ∷ [])) }
     ensures none { OnErr result (out.new.items ≡ out.old.items) }
 {
     let settings = config.settings();
     let pdu = rd(settings.rhold, to, via, title, settings.sealed);
-    send(place.port, Target::System(place.snpa), pdu, out)
+    send(neighbour.port, Target::System(neighbour.snpa), pdu, out)
 }

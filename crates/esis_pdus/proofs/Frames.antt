@@ -12,7 +12,7 @@ use Rattle.pdu_header.specs.Rules.{pair_at, header_size, header_of, has_right_ch
 use Rattle.esis_pdus.specs.declared.pdu.EsisBody.{EsisBody}
 use Rattle.esis_pdus.specs.declared.pdu.EsisRefusal.{EsisRefusal}
 use Rattle.esis_pdus.specs.Value.{EsisValue}
-use Rattle.esis_pdus.specs.Spelling as spelling
+use Rattle.esis_pdus.specs.Spelling as esis_spelling
 use Rattle.esis_pdus.specs.Spelling.{type_code, body_octets, header_length, unsealed}
 use Rattle.esis_pdus.specs.Grammar.{IsPdu, Spells, FitsTimer, BeginsWith}
 use Rattle.esis_pdus.specs.Rules.{variable_part, options_part, options_place, header_refusal, refusal}
@@ -29,17 +29,17 @@ use Rattle.pdu_header.proofs.ClnpBase.ListSteps.{bytes_of_take}
 pub record IsLaidOut (head : List ℕ) (v : EsisValue) : Type 0 where
   pub x : ℕ
   pub y : ℕ
-  pub layout : head ≡ 0x82 ∷ header_length v ∷ 1 ∷ 0 ∷ type_code v.body ∷ (pair_of v.holding ++ (x ∷ y ∷ spelling.variable_part v))
+  pub layout : head ≡ 0x82 ∷ header_length v ∷ 1 ∷ 0 ∷ type_code v.body ∷ (pair_of v.holding ++ (x ∷ y ∷ esis_spelling.variable_part v))
   pub checksum : has_right_checksum head ≡ true
   pub sealed_is : not (pair_at head 8 == 0) ≡ v.sealed
 
-pub laid_out : (v : EsisValue) → IsLaidOut (spelling.spelling v) v
+pub laid_out : (v : EsisValue) → IsLaidOut (esis_spelling.spelling v) v
 laid_out v = by_flag v.sealed refl
   where
-    by_flag : (b : Bool) → v.sealed ≡ b → IsLaidOut (spelling.spelling v) v
+    by_flag : (b : Bool) → v.sealed ≡ b → IsLaidOut (esis_spelling.spelling v) v
     by_flag true e =
         let head = sealed (unsealed v) in
-        let shape = sealed_layout 0x82 (header_length v) 1 0 (type_code v.body) (get_or (pair_of v.holding) 0 0) (get_or (pair_of v.holding) 1 0) (spelling.variable_part v) in
+        let shape = sealed_layout 0x82 (header_length v) 1 0 (type_code v.body) (get_or (pair_of v.holding) 0 0) (get_or (pair_of v.holding) 1 0) (esis_spelling.variable_part v) in
         let is : IsSealed head = sealed_is (unsealed v) (omega arith) in
         let P : Bool → Type 0 = λ b. IsLaidOut (if b then sealed (unsealed v) else unsealed v) v in
         subst P (sym e) (record {
@@ -73,9 +73,9 @@ pub record IsReadAs (head : List ℕ) (v : EsisValue) : Type 0 where
   pub accepted : IsAccepted head
   pub value : value_of head ≡ v
 
-pub read_as : (v : EsisValue) → IsPdu v → IsReadAs (spelling.spelling v) v
+pub read_as : (v : EsisValue) → IsPdu v → IsReadAs (esis_spelling.spelling v) v
 read_as v pdu =
-    let head = spelling.spelling v in
+    let head = esis_spelling.spelling v in
     let l : IsLaidOut head v = laid_out v in
     let high = get_or (pair_of v.holding) 0 0 in
     let low = get_or (pair_of v.holding) 1 0 in
@@ -119,7 +119,7 @@ pub record IsHeader (head : List ℕ) : Type 0 where
   pub short : length head ≤ 254
   pub accepted : IsAccepted head
 
-pub variable_part_is : (head : List ℕ) → IsHeader head → variable_part head ≡ spelling.variable_part (value_of head)
+pub variable_part_is : (head : List ℕ) → IsHeader head → variable_part head ≡ esis_spelling.variable_part (value_of head)
 variable_part_is head h =
     (has_body head h.bytes h.accepted).split
     ∙ ap (λ (t : List ℕ). body_octets (body_of head) ++ t) (options_again (options_place head) (options_part head) h.accepted.fill)
@@ -134,10 +134,10 @@ bare_is head h =
     let v = value_of head in
     let pair : pair_of v.holding ≡ get_or head 5 0 ∷ get_or head 6 0 ∷ [] = pair_of_octets (get_or head 5 0) (get_or head 6 0) (h.bytes 5) (h.bytes 6) in
     same_layout 0x82 (header_length v) 1 0 (type_code v.body) (get_or head 0 0) (get_or head 1 0) (get_or head 2 0) (get_or head 3 0) (get_or head 4 0) 0 0
-    (pair_of v.holding) (get_or head 5 0 ∷ get_or head 6 0 ∷ []) (spelling.variable_part v) (drop 9 head)
+    (pair_of v.holding) (get_or head 5 0 ∷ get_or head 6 0 ∷ []) (esis_spelling.variable_part v) (drop 9 head)
     (sym h.protocol) (header_length_is head h ∙ sym h.size) (sym h.accepted.version) (sym h.accepted.reserved) (sym (has_body head h.bytes h.accepted).type) pair (sym (variable_part_is head h))
 
-pub header_is : (head : List ℕ) → IsHeader head → head ≡ spelling.spelling (value_of head)
+pub header_is : (head : List ℕ) → IsHeader head → head ≡ esis_spelling.spelling (value_of head)
 header_is head h =
     let bare = nine_bare head h.long ∙ sym (bare_is head h) in
     elim (right_from_test head h.accepted.checksum) [
@@ -193,7 +193,7 @@ pub record IsFront (frame : List ℕ) (v : EsisValue) (rest : List ℕ) : Type 0
 pub is_front : (frame : List ℕ) (v : EsisValue) (rest : List ℕ) → BeginsWith frame v rest → IsFront frame v rest
 unfolding refusal
 is_front frame v rest h =
-    let head = spelling.spelling v in
+    let head = esis_spelling.spelling v in
     let read = read_as v h.spells.pdu in
     let parts : frame ≡ head ++ rest = h.split ∙ ap (λ (xs : List ℕ). xs ++ rest) h.spells.octets_are in
     let front_octet : (i : ℕ) → i < 9 → get_or frame i 0 ≡ get_or head i 0 =

@@ -3,7 +3,7 @@ ghost use Rattle.pdu_header.specs.ClnpOptions.Parameter.{parameters};
 ghost use Rattle.esis_pdus.specs.Fields.{address_list, behind_address_list, field as field_octets, behind, is_address_list, is_field};
 ghost use Rattle.esis_pdus.specs.Reading.{body_of, redirection, rest_of, value_of};
 ghost use Rattle.esis_pdus.specs.Rules.{Gives, address_rules, first_broken, fixed_part_rules, frame_rules, is_ish, is_redirection, option_rules, options_part, options_place, refusal, why_refused};
-ghost use Rattle.esis_pdus.specs.Rules as rules;
+ghost use Rattle.esis_pdus.specs.Rules as esis_rules;
 ghost use Rattle.esis_pdus.specs.Timer.{place_of_wrong_timer, seconds_of};
 ghost use Rattle.esis_pdus.specs.Value.{EsisValue, suggested};
 ghost use Rattle.esis_pdus.specs.View.{IsWritable, pdu_value};

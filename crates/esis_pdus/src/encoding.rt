@@ -7,7 +7,7 @@ ghost use Rattle.std.specs.Prelude.{◌≡◌, ◌+◌, ◌≤◌, ◌++◌, OnE
 use crate::hello::push_title;
 use crate::kind::Kind;
 use crate::pdu::{EsisBody, EsisPdu};
-use crate::write::{MOST, begun, finished, push_counted};
+use crate::write::{MOST, begun, finished};
 use pdu_header::clnp_base::{InlineOctets, NoMemory};
 use std::alloc::Global;
 
@@ -44,13 +44,13 @@ fn begun_with(body: &EsisBody<'_>, hold: u16) -> InlineOctets<MOST>
         }
         EsisBody::Ish { title } => {
             let mut plain = begun(Kind::IntermediateSystemHello, hold);
-            push_counted(&mut plain, title.as_bytes());
+            plain.push_counted(title.as_bytes());
             plain
         }
         EsisBody::Rd { to, via, title } => {
             let mut plain = begun(Kind::Redirect, hold);
-            push_counted(&mut plain, to.as_bytes());
-            push_counted(&mut plain, via.as_bytes());
+            plain.push_counted(to.as_bytes());
+            plain.push_counted(via.as_bytes());
             push_title(&mut plain, title.as_ref());
             plain
         }

@@ -12,7 +12,7 @@ ghost use Rattle.std.specs.Prelude.{◌≡◌, ◌+◌, ◌<◌, ◌≤◌, ◌+
 
 use crate::kind::Kind;
 use crate::pdu::EsisBody;
-use crate::write::{MOST, begun, finished, push_counted};
+use crate::write::{MOST, begun, finished};
 use byteorder::{BigEndian, ByteOrder};
 use pdu_header::clnp_base::InlineOctets;
 use pdu_header::clnp_views::Head;
@@ -68,7 +68,7 @@ fn push_addresses(plain: &mut InlineOctets<MOST>, addresses: &[Address])
     ensures { plain.new ≡ plain.old ++ joined addresses.now }
 {
     for address in addresses {
-        push_counted(plain, address.as_bytes());
+        plain.push_counted(address.as_bytes());
     }
 }
 
@@ -80,7 +80,7 @@ pub fn ish(hold: u16, title: &Address, suggested: Option<u16>, sealed: bool) -> 
     ensures accepted { refusal result ≡ None }
 {
     let mut plain = begun(Kind::IntermediateSystemHello, hold);
-    push_counted(&mut plain, title.as_bytes());
+    plain.push_counted(title.as_bytes());
     push_timer(&mut plain, suggested);
     finished(&plain, sealed)
 }
@@ -106,8 +106,8 @@ pub fn rd(hold: u16, to: &Address, via: &Snpa, title: Option<&Address>, sealed: 
     ensures accepted { refusal result ≡ None }
 {
     let mut plain = begun(Kind::Redirect, hold);
-    push_counted(&mut plain, to.as_bytes());
-    push_counted(&mut plain, via.as_bytes());
+    plain.push_counted(to.as_bytes());
+    plain.push_counted(via.as_bytes());
     push_title(&mut plain, title);
     finished(&plain, sealed)
 }
@@ -119,7 +119,7 @@ pub(crate) fn push_title(plain: &mut InlineOctets<MOST>, title: Option<&Address>
     ensures title { IsTitleOrNone (option_copied title.entry) }
 {
     match title {
-        Some(title) => push_counted(plain, title.as_bytes()),
-        None => push_counted(plain, &[]),
+        Some(title) => plain.push_counted(title.as_bytes()),
+        None => plain.push_counted(&[]),
     }
 }

@@ -2,9 +2,8 @@
 ghost use Rattle.esis_pdus.specs.Kinds.{code_of};
 ghost use Rattle.esis_pdus.specs.Spelling.{fixed_part};
 ghost use Rattle.pdu_header.specs.Parts.{checked};
-ghost use Rattle.pdu_header.specs.Spelling.{counted};
 ghost use Rattle.std.specs.List.{slice_set};
-ghost use Rattle.std.specs.Prelude.{◌≡◌, ◌+◌, ◌≤◌, ◌++◌, length};
+ghost use Rattle.std.specs.Prelude.{◌≡◌, ◌≤◌, length};
 
 use crate::kind::{Kind, type_of};
 use byteorder::{BigEndian, ByteOrder};
@@ -37,15 +36,6 @@ pub(crate) fn begun(kind: Kind, hold: u16) -> InlineOctets<MOST>
         0,
         0,
     ])
-}
-
-/// Puts an address behind its length.
-pub(crate) fn push_counted(plain: &mut InlineOctets<MOST>, address: &[u8])
-    requires { length plain.old + length (counted address.now) ≤ 254 }
-    ensures { plain.new ≡ plain.old ++ counted address.now }
-{
-    plain.push(&[address.len() as u8]);
-    plain.push(address);
 }
 
 /// The header with its length, and with a checksum where it is to have one.

@@ -3,13 +3,13 @@ use Rattle.std.proofs.Common.{◌≡◌, ℕ, ◌<◌, ◌≤◌, true, false, �
 use Rattle.std.proofs.lemmas.Bool.{cases_Bool, ltb-true, ltb-false, and_parts, and_cases, both_ways, false_from_ne_true}
 use Rattle.std.specs.List.{AllByRecursion, filter}
 use Rattle.std.specs.Option.{option_map, option_or}
-use Rattle.esis_tables.specs.declared.fact.Place.{Place}
+use Rattle.esis_tables.specs.declared.fact.Neighbour.{Neighbour}
 use Rattle.esis_tables.specs.declared.table.Entry.{Entry}
 use Rattle.esis_tables.specs.Fact.{Fact, is_held}
 use Rattle.esis_tables.specs.Keeps.{AreNumbered, Keeps, entries_of}
-use Rattle.esis_tables.specs.NextHop.{last, place_of}
+use Rattle.esis_tables.specs.NextHop.{last, neighbour_of}
 use Rattle.esis_tables.specs.Order.{in_order, put_in, is_before}
-use Rattle.esis_tables.specs.State.{TableState, is_kept, is_later_than, key_in, latest_kept, place_in}
+use Rattle.esis_tables.specs.State.{TableState, is_kept, is_later_than, key_in, latest_kept, neighbour_in}
 use Rattle.esis_tables.proofs.Rising.{filter_none}
 use Rattle.esis_tables.proofs.Sorting.{all_in_order-back}
 use Rattle.std.proofs.lemmas.Option.{same_Some}
@@ -134,27 +134,27 @@ none_later now n number (fact ∷ later) above all =
     too_high : n < number fact.key → number fact.key ≤ n → ⊥
     too_high h k = omega (arith, h, k)
 
-or_some : (o : Option Fact) (other : Option Fact) (place : Place) → option_map place_of o ≡ Some place → option_map place_of (option_or o other) ≡ Some place
-or_some None other place h = absurd (none_some h)
+or_some : (o : Option Fact) (other : Option Fact) (neighbour : Neighbour) → option_map neighbour_of o ≡ Some neighbour → option_map neighbour_of (option_or o other) ≡ Some neighbour
+or_some None other neighbour h = absurd (none_some h)
   where
-    none_some : None ≡ Some place → ⊥
+    none_some : None ≡ Some neighbour → ⊥
     none_some e = cc
-or_some (Some fact) other place h = h
+or_some (Some fact) other neighbour h = h
 
 latest_place : (now : ℕ) (number : List ℕ → ℕ) (kept : List Fact) (latest : Entry) → AreNumbered number kept → Among latest (entries_of number kept)
     → is_kept now latest ≡ true → AllByRecursion (HasNoGreater now latest.number) (entries_of number kept)
-    → option_map place_of (last (filter (is_held now) kept)) ≡ Some latest.place
+    → option_map neighbour_of (last (filter (is_held now) kept)) ≡ Some latest.neighbour
 latest_place now number [] latest numbered among holds greatest = absurd among
 latest_place now number (fact ∷ later) latest numbered (inl e) holds greatest =
     let held : is_held now fact ≡ true = subst (λ (l : Entry). is_kept now l ≡ true) (sym e) holds in
     let high : AllByRecursion (HasNoGreater now (number fact.key)) (entries_of number later) =
     subst (λ (l : Entry). AllByRecursion (HasNoGreater now l.number) (entries_of number later)) (sym e) greatest.1 in
     let alone : filter (is_held now) later ≡ [] = filter_none (is_held now) later (none_later now (number fact.key) number later numbered.0 high) in
-    rw held (rw alone (ap (λ (l : Entry). Some l.place) e))
+    rw held (rw alone (ap (λ (l : Entry). Some l.neighbour) e))
 latest_place now number (fact ∷ later) latest numbered (inr a) holds greatest =
     let step = latest_place now number later latest numbered.1 a holds greatest.1 in
     elim (cases_Bool (is_held now fact)) [
-      | inl t ↦ rw t (or_some (last (filter (is_held now) later)) (Some fact) latest.place step)
+      | inl t ↦ rw t (or_some (last (filter (is_held now) later)) (Some fact) latest.neighbour step)
       | inr f ↦ rw f step
     ]
 
@@ -165,10 +165,10 @@ none_held now number (fact ∷ later) none = (none.0, none_held now number later
 
 answered : (now : ℕ) (number : List ℕ → ℕ) (kept : List Fact) (result : Option Entry) → AreNumbered number kept
     → Tells now None (in_order key_in (entries_of number kept)) result
-    → option_map place_in result ≡ option_map place_of (last (filter (is_held now) kept))
+    → option_map neighbour_in result ≡ option_map neighbour_of (last (filter (is_held now) kept))
 answered now number kept None numbered tells =
     let none = all_in_order-back key_in (λ entry. is_kept now entry ≡ false) (entries_of number kept) tells.none_holds in
-    sym (ap (λ l. option_map place_of (last l)) (filter_none (is_held now) kept (none_held now number kept none)))
+    sym (ap (λ l. option_map neighbour_of (last l)) (filter_none (is_held now) kept (none_held now number kept none)))
 answered now number kept (Some latest) numbered tells =
     elim tells.among [
       | inl e ↦ absurd (none_some e)
@@ -184,8 +184,8 @@ answered now number kept (Some latest) numbered tells =
 
 -- the place of the entry heard last is that of the kept fact heard last
 pub last_kept : (now : ℕ) (table : TableState) (kept : List Fact) → Keeps table kept
-    → option_map place_in (latest_kept now None table.entries) ≡ option_map place_of (last (filter (is_held now) kept))
+    → option_map neighbour_in (latest_kept now None table.entries) ≡ option_map neighbour_of (last (filter (is_held now) kept))
 last_kept now table kept keeps =
-    ap (λ l. option_map place_in (latest_kept now None l)) keeps.entries
+    ap (λ l. option_map neighbour_in (latest_kept now None l)) keeps.entries
     ∙ answered now keeps.number kept (latest_kept now None (in_order key_in (entries_of keeps.number kept))) keeps.numbered
     (tells_latest now None (in_order key_in (entries_of keeps.number kept)))

@@ -7,9 +7,9 @@ use Rattle.std.specs.Option.{option_map}
 use Rattle.esis_tables.specs.declared.table.Entry.{Entry}
 use Rattle.esis_tables.specs.Fact.{Fact, has_key, is_held, while_held}
 use Rattle.esis_tables.specs.Keeps.{Keeps, entries_of}
-use Rattle.esis_tables.specs.NextHop.{is_at, place_of}
+use Rattle.esis_tables.specs.NextHop.{is_at, neighbour_of}
 use Rattle.esis_tables.specs.Order.{IsRising}
-use Rattle.esis_tables.specs.State.{TableState, IsAt, IsGap, is_kept, is_kept_at, is_of, key_in, place_while_kept}
+use Rattle.esis_tables.specs.State.{TableState, IsAt, IsGap, is_kept, is_kept_at, is_of, key_in, neighbour_while_kept}
 use Rattle.esis_tables.proofs.Keeping.{any_kept, found_in, splits_of}
 use Rattle.esis_tables.proofs.Places.{find_is, find_none, none_has}
 
@@ -21,24 +21,24 @@ read_there entries key at entry place read rising =
     find_is key_in entries at place.entry key rising place.stands_at place.is_its ∙ ap Some same
 
 pub held_there : (now : ℕ) (entries : List Entry) (key : List ℕ) (at : ℕ) (entry : Entry) → IsAt entries key at → entry ≡ get_or entries at entry
-    → now < entry.until → IsRising key_in entries → Some entry.place ≡ place_while_kept now (find (is_of key) entries)
+    → now < entry.until → IsRising key_in entries → Some entry.neighbour ≡ neighbour_while_kept now (find (is_of key) entries)
 held_there now entries key at entry place read holds rising =
-    sym (ap (place_while_kept now) (read_there entries key at entry place read rising)
-    ∙ cond-true (is_kept now entry) (Some entry.place) None (lt-ltb now entry.until holds))
+    sym (ap (neighbour_while_kept now) (read_there entries key at entry place read rising)
+    ∙ cond-true (is_kept now entry) (Some entry.neighbour) None (lt-ltb now entry.until holds))
 
 pub ended_there : (now : ℕ) (entries : List Entry) (key : List ℕ) (at : ℕ) (entry : Entry) → IsAt entries key at → entry ≡ get_or entries at entry
-    → entry.until ≤ now → IsRising key_in entries → None ≡ place_while_kept now (find (is_of key) entries)
+    → entry.until ≤ now → IsRising key_in entries → None ≡ neighbour_while_kept now (find (is_of key) entries)
 ended_there now entries key at entry place read ended rising =
-    sym (ap (place_while_kept now) (read_there entries key at entry place read rising)
-    ∙ cond-false (is_kept now entry) (Some entry.place) None (le-ltb now entry.until ended))
+    sym (ap (neighbour_while_kept now) (read_there entries key at entry place read rising)
+    ∙ cond-false (is_kept now entry) (Some entry.neighbour) None (le-ltb now entry.until ended))
 
 pub held_nowhere : (now : ℕ) (entries : List Entry) (key : List ℕ) (at : ℕ) → IsGap entries key at
-    → None ≡ place_while_kept now (find (is_of key) entries)
+    → None ≡ neighbour_while_kept now (find (is_of key) entries)
 held_nowhere now entries key at gap =
-    sym (ap (place_while_kept now) (find_none key_in entries key (none_has key_in entries at key (splits_of entries key at gap))))
+    sym (ap (neighbour_while_kept now) (find_none key_in entries key (none_has key_in entries at key (splits_of entries key at gap))))
 
 place-entries : (now : ℕ) (key : List ℕ) (number : List ℕ → ℕ) (kept : List Fact)
-    → place_while_kept now (find (is_of key) (entries_of number kept)) ≡ option_map place_of (while_held now (find (has_key key) kept))
+    → neighbour_while_kept now (find (is_of key) (entries_of number kept)) ≡ option_map neighbour_of (while_held now (find (has_key key) kept))
 place-entries now key number [] = refl
 place-entries now key number (fact ∷ later) =
     elim (cases_Bool (has_key key fact)) [
@@ -51,8 +51,8 @@ place-entries now key number (fact ∷ later) =
 
 -- the place of a key in a table is that of the kept fact
 pub place_kept : (now : ℕ) (key : List ℕ) (table : TableState) (kept : List Fact) → Keeps table kept
-    → place_while_kept now (find (is_of key) table.entries) ≡ option_map place_of (while_held now (find (has_key key) kept))
-place_kept now key table kept keeps = ap (place_while_kept now) (found_in table kept keeps key) ∙ place-entries now key keeps.number kept
+    → neighbour_while_kept now (find (is_of key) table.entries) ≡ option_map neighbour_of (while_held now (find (has_key key) kept))
+place_kept now key table kept keeps = ap (neighbour_while_kept now) (found_in table kept keeps key) ∙ place-entries now key keeps.number kept
 
 any-filter : {X : Type 0} (p q : X → Bool) (xs : List X) → list_any (λ x. p x && q x) xs ≡ list_any q (filter p xs)
 any-filter p q [] = refl

@@ -7,7 +7,7 @@ use Rattle.esis_tables.specs.declared.fact.EsisLimits.{EsisLimits}
 use Rattle.esis_tables.specs.declared.fact.TableKind.{TableKind}
 use Rattle.esis_tables.specs.declared.fact.TableKind.TheVariants.{Es, Is, Rd}
 use Rattle.esis_tables.specs.Fact.{Fact, after, answer, current, currents, end_of, has_key, is_about, is_held, is_noted, last_of, same_table, while_held}
-use Rattle.esis_tables.specs.NextHop.{last, next_hop, place_of}
+use Rattle.esis_tables.specs.NextHop.{last, next_hop, neighbour_of}
 use Rattle.nsap.proofs.ClnpBase.SameOctets.{same_from, same-itself}
 use Rattle.esis_tables.proofs.Current.{after-elsewhere, same_table-itself}
 use Rattle.esis_tables.proofs.Histories.{last_of-elsewhere, last_of-other}
@@ -36,12 +36,12 @@ module _ (limits : EsisLimits) (heard : Fact) (facts : List Fact) (now : ℕ) wh
   pub hops_stay : (destination : List ℕ) → heard.table ≡ Rd → (heard.key ≡ destination → ⊥)
       → next_hop now destination (after limits heard facts) ≡ next_hop now destination facts
   hops_stay destination redirect other =
-      ap (λ o. option_or (option_map place_of o) (option_or (option_map place_of (current now Es destination (after limits heard facts)))
-      (option_map place_of (last (currents now Is (after limits heard facts)))))) (others_stay destination redirect other)
-      ∙ ap (λ o. option_or (option_map place_of (current now Rd destination facts)) (option_or (option_map place_of o)
-      (option_map place_of (last (currents now Is (after limits heard facts)))))) (systems_stay destination redirect)
-      ∙ ap (λ l. option_or (option_map place_of (current now Rd destination facts)) (option_or (option_map place_of (current now Es destination facts))
-      (option_map place_of (last l)))) (routers_stay redirect)
+      ap (λ o. option_or (option_map neighbour_of o) (option_or (option_map neighbour_of (current now Es destination (after limits heard facts)))
+      (option_map neighbour_of (last (currents now Is (after limits heard facts)))))) (others_stay destination redirect other)
+      ∙ ap (λ o. option_or (option_map neighbour_of (current now Rd destination facts)) (option_or (option_map neighbour_of o)
+      (option_map neighbour_of (last (currents now Is (after limits heard facts)))))) (systems_stay destination redirect)
+      ∙ ap (λ l. option_or (option_map neighbour_of (current now Rd destination facts)) (option_or (option_map neighbour_of (current now Es destination facts))
+      (option_map neighbour_of (last l)))) (routers_stay redirect)
 
 none_later : (table : TableKind) (key : List ℕ) (later : List Fact) → AllByRecursion (λ other. is_about table key other ≡ false) later
     → last_of table key later ≡ None

@@ -10,9 +10,9 @@ use Rattle.esis_tables.specs.declared.tables.Tables.{Tables}
 use Rattle.esis_tables.specs.Fact.{Fact, currents, is_held}
 use Rattle.esis_tables.specs.Gone.{all_gone, ended_keys, gone, gone_from, gone_keys}
 use Rattle.esis_tables.specs.Keeps.{Keeps, without}
-use Rattle.esis_tables.specs.NextHop.{current_place, is_at, last, place_of}
+use Rattle.esis_tables.specs.NextHop.{current_neighbour, is_at, last, neighbour_of}
 use Rattle.esis_tables.specs.Stands.{FlushesFirst, KeepsCurrent, Stands}
-use Rattle.esis_tables.specs.State.{TableState, is_kept_at, is_of, key_in, latest_kept, place_in, place_while_kept}
+use Rattle.esis_tables.specs.State.{TableState, is_kept_at, is_of, key_in, latest_kept, neighbour_in, neighbour_while_kept}
 use Rattle.esis_tables.proofs.Current.{current_is, currents_later, later_keeps}
 use Rattle.esis_tables.proofs.Keeping.{rising_of}
 use Rattle.esis_tables.proofs.Latest.{last_kept}
@@ -82,15 +82,15 @@ keeps_nothing table state now empty = record {
 
 module _ (table : TableKind) (state : TableState) (facts : List Fact) (before now : ℕ) (left : List (List ℕ))
     (keeps : KeepsCurrent table state facts before left) (le : before ≤ now) where
-  pub place_is : (key : List ℕ) → place_while_kept now (find (is_of key) state.entries) ≡ current_place now table key facts
+  pub place_is : (key : List ℕ) → neighbour_while_kept now (find (is_of key) state.entries) ≡ current_neighbour now table key facts
   place_is key =
-      place_kept now key state keeps.kept keeps.keeps ∙ ap (option_map place_of) (current_is table state facts before now left keeps key le)
+      place_kept now key state keeps.kept keeps.keeps ∙ ap (option_map neighbour_of) (current_is table state facts before now left keeps key le)
 
   held_is : filter (is_held now) keeps.kept ≡ currents now table facts
   held_is = currents_later before now table keeps.kept facts le keeps.current
 
-  pub last_is : option_map place_in (latest_kept now None state.entries) ≡ option_map place_of (last (currents now table facts))
-  last_is = last_kept now state keeps.kept keeps.keeps ∙ ap (λ l. option_map place_of (last l)) held_is
+  pub last_is : option_map neighbour_in (latest_kept now None state.entries) ≡ option_map neighbour_of (last (currents now table facts))
+  last_is = last_kept now state keeps.kept keeps.keeps ∙ ap (λ l. option_map neighbour_of (last l)) held_is
 
   pub router_is : (snpa : List ℕ) → list_any (is_kept_at now snpa) state.entries ≡ list_any (is_at snpa) (currents now table facts)
   router_is snpa = at_kept now snpa state keeps.kept keeps.keeps ∙ ap (list_any (is_at snpa)) held_is

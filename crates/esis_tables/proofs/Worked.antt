@@ -1,7 +1,7 @@
 -- Worked hearings, by computation.
 use Rattle.std.proofs.Common.{◌≡◌, ℕ, true, List, [], ◌∷◌, None, Some, refl}
 use Rattle.esis_tables.specs.declared.fact.EsisLimits.{EsisLimits}
-use Rattle.esis_tables.specs.declared.fact.Place.{Place}
+use Rattle.esis_tables.specs.declared.fact.Neighbour.{Neighbour}
 use Rattle.esis_tables.specs.declared.fact.Heard.TheVariants.{New, Again, Zero, Full}
 use Rattle.esis_tables.specs.declared.fact.TableKind.TheVariants.{Is, Rd}
 use Rattle.esis_tables.specs.Fact.{Fact, answer, current, hearing}
@@ -11,7 +11,7 @@ use Rattle.esis_tables.specs.NextHop.{is_router, last_router, next_hop}
 abbrev limits : EsisLimits
 limits = record { neighbours = 2; routers = 2; redirects = 1 }
 
-abbrev at : ℕ → Place
+abbrev at : ℕ → Neighbour
 at snpa = record { port = 0; snpa = snpa ∷ [] }
 
 abbrev router : List ℕ

@@ -3,7 +3,7 @@ use Rattle.std.specs.Prelude.{ℕ, ◌+◌, ◌*◌, ◌==◌, ◌&&◌, nat_lt,
 use Rattle.std.specs.Option.{option_or}
 use Rattle.std.specs.Str.{bytes_eq}
 use Rattle.esis_tables.specs.declared.fact.EsisLimits.{EsisLimits}
-use Rattle.esis_tables.specs.declared.fact.Place.{Place}
+use Rattle.esis_tables.specs.declared.fact.Neighbour.{Neighbour}
 use Rattle.esis_tables.specs.declared.fact.TableKind.{TableKind}
 use Rattle.esis_tables.specs.declared.fact.TableKind.TheVariants.{Es, Is, Rd}
 use Rattle.esis_tables.specs.declared.fact.Heard.{Heard}
@@ -14,13 +14,13 @@ use Rattle.esis_tables.specs.declared.fact.Heard.TheVariants.{New, Again, Zero, 
 pub record Fact : Type 0 where
   pub table : TableKind
   pub key : List ℕ
-  pub place : Place
+  pub neighbour : Neighbour
   pub moment : ℕ
   pub holding : ℕ
 
 -- what is heard at a moment
-abbrev pub hearing : ℕ → TableKind → List ℕ → Place → ℕ → Fact
-hearing now table key place holding = record { table = table; key = key; place = place; moment = now; holding = holding }
+abbrev pub hearing : ℕ → TableKind → List ℕ → Neighbour → ℕ → Fact
+hearing now table key neighbour holding = record { table = table; key = key; neighbour = neighbour; moment = now; holding = holding }
 
 abbrev pub same_table : TableKind → TableKind → Bool
 same_table Es Es = true

@@ -33,5 +33,6 @@ lowered above by entry = record entry { number = down above by entry.number }
 pub record KeepTheSame (before after : List Entry) : Type 0 where
   pub keeps : (limit : ℕ) (kept : List Fact) → Keeps (record { limit = limit; entries = before }) kept
       → Keeps (record { limit = limit; entries = after }) kept
-  pub ends : (moment : ℕ) → AllByRecursion (λ entry. moment ≤ entry.until) before → AllByRecursion (λ entry. moment ≤ entry.until) after
+  pub ends : (moment : ℕ) → AllByRecursion (λ entry. moment ≤ entry.until) before
+      → AllByRecursion (λ entry. moment ≤ entry.until) after
   pub number : length after ≡ length before

@@ -2,7 +2,7 @@
 use Rattle.std.specs.Prelude.{◌≡◌, ℕ, ◌≤◌, true, Bool, ◌&&◌, nat_lt, fold, if◌then◌else◌, List, length, Option, None, Some, slice_get}
 use Rattle.std.specs.List.{AllByRecursion, AllWithin}
 use Rattle.std.specs.Str.{bytes_eq}
-use Rattle.esis_tables.specs.declared.fact.Place.{Place}
+use Rattle.esis_tables.specs.declared.fact.Neighbour.{Neighbour}
 use Rattle.esis_tables.specs.declared.table.Entry.{Entry}
 use Rattle.esis_tables.specs.Fact.{Fact, end_of}
 use Rattle.esis_tables.specs.Order.{is_before}
@@ -14,7 +14,7 @@ pub record TableState : Type 0 where
 
 -- the entry of a fact, by the number of its hearing
 abbrev pub entry_for : Fact → ℕ → Entry
-entry_for fact number = record { key = fact.key; place = fact.place; until = end_of fact; number = number }
+entry_for fact number = record { key = fact.key; neighbour = fact.neighbour; until = end_of fact; number = number }
 
 abbrev pub key_in : Entry → List ℕ
 key_in entry = entry.key
@@ -43,17 +43,17 @@ pub record AreBounded (soonest last : ℕ) (entries : List Entry) : Type 0 where
   pub end : AllByRecursion (λ entry. soonest ≤ entry.until) entries
   pub heard : AllByRecursion (λ entry. entry.number ≤ last) entries
 
-abbrev pub place_in : Entry → Place
-place_in entry = entry.place
+abbrev pub neighbour_in : Entry → Neighbour
+neighbour_in entry = entry.neighbour
 
 -- where the system of an entry is reached, while what was heard of it holds
-abbrev pub place_while_kept : ℕ → Option Entry → Option Place
-place_while_kept now None = None
-place_while_kept now (Some entry) = if is_kept now entry then Some entry.place else None
+abbrev pub neighbour_while_kept : ℕ → Option Entry → Option Neighbour
+neighbour_while_kept now None = None
+neighbour_while_kept now (Some entry) = if is_kept now entry then Some entry.neighbour else None
 
 -- whether an entry holds and its system is at this address on its subnetwork
 abbrev pub is_kept_at : ℕ → List ℕ → Entry → Bool
-is_kept_at now snpa entry = is_kept now entry && bytes_eq entry.place.snpa snpa
+is_kept_at now snpa entry = is_kept now entry && bytes_eq entry.neighbour.snpa snpa
 
 -- whether an entry was heard after another, if there is one
 abbrev pub is_later_than : Entry → Option Entry → Bool

@@ -12,9 +12,9 @@ pub struct EsisLimits {
     pub redirects: u16,
 }
 
-/// Where a system is reached.
+/// A neighbour: where a system is reached.
 #[derive(Clone, Copy, Debug, PartialEq, Eq)]
-pub struct Place {
+pub struct Neighbour {
     /// The number of the port of one's own.
     pub port: u8,
     /// The system's address on the subnetwork of that port.

@@ -43,7 +43,8 @@ pub fn what_was_heard_holds()
 
 /// The keys that are gone between two moments rise, and are those with a current fact at the first and none at the second.
 pub fn gone_are_those_that_ended()
-    ensures rising { (before now : ℕ) (table : TableKind) (facts : List Fact) → IsRising (λ key. key) (gone_keys before now table facts) }
+    ensures rising { (before now : ℕ) (table : TableKind) (facts : List Fact)
+        → IsRising (λ key. key) (gone_keys before now table facts) }
     ensures those { (before now : ℕ) (table : TableKind) (facts : List Fact) (key : List ℕ)
         → before ≤ now → list_any (λ other. bytes_eq other key) (gone_keys before now table facts)
         ≡ (is_some (current before table key facts) && is_none (current now table key facts)) }

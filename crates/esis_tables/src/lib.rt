@@ -7,5 +7,5 @@ pub mod laws;
 mod table;
 mod tables;
 
-pub use crate::fact::{EsisLimits, Gone, Heard, Place, TableKind};
+pub use crate::fact::{EsisLimits, Gone, Heard, Neighbour, TableKind};
 pub use crate::tables::Tables;

@@ -9,9 +9,9 @@ ghost use Rattle.esis_tables.specs.Gone.{ended_keys};
 ghost use Rattle.esis_tables.specs.Keeps.{Keeps, answer_of, kept_after, without};
 ghost use Rattle.esis_tables.specs.Order.{IsRising};
 ghost use Rattle.esis_tables.specs.Numbers.{KeepTheSame, count_above, is_less_than, least_above, lowered};
-ghost use Rattle.esis_tables.specs.State.{IsAt, IsGap, is_kept, is_kept_at, is_later_than, is_of, key_in, latest_kept, place_in, place_while_kept};
+ghost use Rattle.esis_tables.specs.State.{IsAt, IsGap, is_kept, is_kept_at, is_later_than, is_of, key_in, latest_kept, neighbour_in, neighbour_while_kept};
 
-use crate::fact::{Heard, Place};
+use crate::fact::{Heard, Neighbour};
 use nsap::clnp_base::NoMemory;
 use nsap::{Address, Snpa};
 use std::alloc::Global;
@@ -21,7 +21,7 @@ use std::marker::Model;
 #[derive(Clone, Copy)]
 struct Entry {
     key: Address,
-    place: Place,
+    neighbour: Neighbour,
     /// The moment from which its time has ended.
     until: u64,
     /// The number of the hearing: what was heard later has a greater one.
@@ -76,12 +76,12 @@ impl Table {
     }
 
     /// Notes that the system of a key is reached at a place, for `hold` seconds from `now` on.
-    pub(crate) fn hear(&mut self, now: u64, key: Address, place: Place, hold: u16) -> Heard
+    pub(crate) fn hear(&mut self, now: u64, key: Address, neighbour: Neighbour, hold: u16) -> Heard
         requires { now < 2 ^ 62 }
         ensures answered { (table : TableKind) (kept : List Fact) → Keeps self.old kept
-            → result ≡ answer_of self.old.limit (hearing now table key place hold) kept }
+            → result ≡ answer_of self.old.limit (hearing now table key neighbour hold) kept }
         ensures keeps { (table : TableKind) (kept : List Fact) → Keeps self.old kept
-            → Keeps self.new (kept_after self.old.limit (hearing now table key place hold) kept) }
+            → Keeps self.new (kept_after self.old.limit (hearing now table key neighbour hold) kept) }
         ensures limit { self.new.limit ≡ self.old.limit }
     {
         if hold == 0 {
@@ -92,7 +92,7 @@ impl Table {
         let until = end_of_hold(now, hold);
         let entry = Entry {
             key,
-            place,
+            neighbour,
             until,
             number,
         };
@@ -219,23 +219,24 @@ impl Table {
     }
 
     /// Where the system of a key is reached, while what was heard of it holds.
-    pub(crate) fn held(&self, now: u64, key: &Address) -> Option<Place>
-        ensures { IsRising key_in self.now.entries → result ≡ place_while_kept now (find (is_of key.now) self.now.entries) }
+    pub(crate) fn held(&self, now: u64, key: &Address) -> Option<Neighbour>
+        ensures { IsRising key_in self.now.entries
+            → result ≡ neighbour_while_kept now (find (is_of key.now) self.now.entries) }
     {
         let Ok(at) = self.find(key) else {
             return None;
         };
         let entry = self.entries[at];
         if now < entry.until {
-            Some(entry.place)
+            Some(entry.neighbour)
         } else {
             None
         }
     }
 
     /// Where the system is reached that was heard last, of those of which what was heard holds.
-    pub(crate) fn last_held(&self, now: u64) -> Option<Place>
-        ensures { result ≡ option_map place_in (latest_kept now None self.now.entries) }
+    pub(crate) fn last_held(&self, now: u64) -> Option<Neighbour>
+        ensures { result ≡ option_map neighbour_in (latest_kept now None self.now.entries) }
     {
         let mut latest: Option<Entry> = None;
         for entry in &self.entries {
@@ -243,7 +244,7 @@ impl Table {
                 latest = Some(*entry);
             }
         }
-        latest.map(|entry| entry.place)
+        latest.map(|entry| entry.neighbour)
     }
 
     /// Whether a system is reached at this address on its subnetwork, by what holds.
@@ -252,7 +253,7 @@ impl Table {
     {
         self.entries
             .iter()
-            .any(|entry| now < entry.until && entry.place.snpa == *snpa)
+            .any(|entry| now < entry.until && entry.neighbour.snpa == *snpa)
     }
 
     /// Takes all entries out.

@@ -4,10 +4,10 @@ ghost use Rattle.esis_tables.specs.declared.fact.Gone.{Gone};
 ghost use Rattle.esis_tables.specs.declared.fact.TableKind.TheVariants.{Es, Rd};
 ghost use Rattle.esis_tables.specs.Fact.{Fact, after, answer, hearing};
 ghost use Rattle.esis_tables.specs.Gone.{gone};
-ghost use Rattle.esis_tables.specs.NextHop.{current_place, is_router, last_router};
+ghost use Rattle.esis_tables.specs.NextHop.{current_neighbour, is_router, last_router};
 ghost use Rattle.esis_tables.specs.Stands.{FlushesFirst, Stands, limits_of};
 
-use crate::fact::{EsisLimits, Gone, Heard, Place, TableKind};
+use crate::fact::{EsisLimits, Gone, Heard, Neighbour, TableKind};
 use crate::table::Table;
 use nsap::clnp_base::NoMemory;
 use nsap::{Address, Snpa};
@@ -58,21 +58,21 @@ impl Tables {
         now: u64,
         table: TableKind,
         key: Address,
-        place: Place,
+        neighbour: Neighbour,
         hold: u16,
     ) -> Heard
         requires { now < 2 ^ 62 }
         // Whatever facts the tables stand for, the answer is theirs, and they then stand for the facts after this one.
         ensures answered { (facts : List Fact) → Stands self.old facts now []
-            → result ≡ answer (limits_of self.old) (hearing now table key place hold) facts }
+            → result ≡ answer (limits_of self.old) (hearing now table key neighbour hold) facts }
         ensures stands { (facts : List Fact) → Stands self.old facts now []
-            → Stands self.new (after (limits_of self.old) (hearing now table key place hold) facts) now [] }
+            → Stands self.new (after (limits_of self.old) (hearing now table key neighbour hold) facts) now [] }
         ensures limits { limits_of self.new ≡ limits_of self.old }
     {
         match table {
-            TableKind::Es => self.systems.hear(now, key, place, hold),
-            TableKind::Is => self.routers.hear(now, key, place, hold),
-            TableKind::Rd => self.redirects.hear(now, key, place, hold),
+            TableKind::Es => self.systems.hear(now, key, neighbour, hold),
+            TableKind::Is => self.routers.hear(now, key, neighbour, hold),
+            TableKind::Rd => self.redirects.hear(now, key, neighbour, hold),
         }
     }
 
@@ -100,15 +100,15 @@ impl Tables {
     }
 
     /// Where the end system of an address is reached, if it is known.
-    pub fn system(&self, now: u64, key: &Address) -> Option<Place>
+    pub fn system(&self, now: u64, key: &Address) -> Option<Neighbour>
         ensures { (facts : List Fact) (before : ℕ) (left : List Gone) → Stands self.now facts before left → before ≤ now
-            → result ≡ current_place now Es key.now facts }
+            → result ≡ current_neighbour now Es key.now facts }
     {
         self.systems.held(now, key)
     }
 
     /// Where the intermediate system is reached that was heard last of those that are known.
-    pub fn last_router(&self, now: u64) -> Option<Place>
+    pub fn last_router(&self, now: u64) -> Option<Neighbour>
         ensures { (facts : List Fact) (before : ℕ) (left : List Gone) → Stands self.now facts before left → before ≤ now
             → result ≡ last_router now facts }
     {
@@ -124,9 +124,9 @@ impl Tables {
     }
 
     /// The better hop towards exactly this destination, if one is known.
-    pub fn redirect(&self, now: u64, key: &Address) -> Option<Place>
+    pub fn redirect(&self, now: u64, key: &Address) -> Option<Neighbour>
         ensures { (facts : List Fact) (before : ℕ) (left : List Gone) → Stands self.now facts before left → before ≤ now
-            → result ≡ current_place now Rd key.now facts }
+            → result ≡ current_neighbour now Rd key.now facts }
     {
         self.redirects.held(now, key)
     }

@@ -11,7 +11,7 @@ use Rattle.fair_text.specs.FairReassembly.Reassembly.Buffer.{Buffer, due, first_
 use Rattle.fair_text.specs.FairReassembly.Reassembly.NoWhole.{HasNoWhole}
 use Rattle.fair_text.specs.FairReassembly.Reassembly.State.{IsReady, Stands, TableState, opening_of}
 use Rattle.fair_text.specs.FairReassembly.Calls.{Expires}
-use Rattle.fair_text.specs.FairReassembly.Classes as told
+use Rattle.fair_text.specs.FairReassembly.Classes as classes
 use Rattle.fair_text.specs.FairReassembly.Classes.{Effect, and_then, ends, expire_all, rests}
 use Rattle.fair_text.specs.FairReassembly.Tables.{At, ChangesTable, FairState, IsAt, place_of}
 use Rattle.fair_text.proofs.FairReassembly.Changed.{changed_as, changed_then, stands_then}
@@ -75,7 +75,7 @@ module _ (now : ℕ) where
   -- one is taken out, and the others behind it
   pub tells_ended : OneEnds → (told_now : Expired) (holds : ℕ) (x y z : List ℕ) (old mid new : TableState) → Expires now (Some told_now) old mid
       → ((buffers : List (Buffer Extent)) → Stands mid buffers → holds ≡ held buffers)
-      → y ≡ x ++ told_line now (told.Expired told_now.key.from told_now.key.to told_now.key.id holds)
+      → y ≡ x ++ told_line now (classes.Expired told_now.key.from told_now.key.to told_now.key.id holds)
       → Tells (expires now) now y z mid new → Tells (expires now) now x z old new
   tells_ended law told_now holds x y z old mid new h is_held line rest =
       let found : (buffers : List (Buffer Extent)) → Stands old buffers → IsEnded now buffers told_now
@@ -94,13 +94,13 @@ module _ (now : ℕ) where
             let ended = (found buffers s).ended in
             let others = without ended.key buffers in
             let later = lines now (expire_all now others).told in
-            let first : y ≡ x ++ told_line now (told.Expired ended.key.from ended.key.to ended.key.id (held others))
+            let first : y ≡ x ++ told_line now (classes.Expired ended.key.from ended.key.to ended.key.id (held others))
             = line
-            ∙ ap (λ n. x ++ told_line now (told.Expired told_now.key.from told_now.key.to told_now.key.id n)) (is_held others (left buffers s))
-            ∙ ap (λ key. x ++ told_line now (told.Expired key.from key.to key.id (held others))) (sym (found buffers s).key) in
+            ∙ ap (λ n. x ++ told_line now (classes.Expired told_now.key.from told_now.key.to told_now.key.id n)) (is_held others (left buffers s))
+            ∙ ap (λ key. x ++ told_line now (classes.Expired key.from key.to key.id (held others))) (sym (found buffers s).key) in
             subst (λ (effect : Effect). z ≡ x ++ lines now effect.told) (sym (law now buffers ended (found buffers s).is_due))
             (rest.told others (left buffers s) ∙ ap (λ front. front ++ later) first
-            ∙ append_assoc x (told_line now (told.Expired ended.key.from ended.key.to ended.key.id (held others))) later);
+            ∙ append_assoc x (told_line now (classes.Expired ended.key.from ended.key.to ended.key.id (held others))) later);
       }
 
   -- fewer are left
@@ -179,7 +179,7 @@ module _ (now : ℕ) (from : List ℕ) where
 
     pub next_goes_on : OneEnds → (at holds : ℕ) (x y z : List ℕ) → at ≡ place_of after.sources from
         → At after at (λ one. (buffers : List (Buffer Extent)) → Stands one buffers → holds ≡ held buffers)
-        → z ≡ y ++ told_line now (told.Expired told_now.key.from told_now.key.to told_now.key.id holds)
+        → z ≡ y ++ told_line now (classes.Expired told_now.key.from told_now.key.to told_now.key.id holds)
         → GoesOn initial state x y → GoesOn initial after x z
     next_goes_on law at holds x y z at_is is_held line goes_on last text later =
         let Later : TableState → TableState → Type 0 = Tells (expires now) now z text in

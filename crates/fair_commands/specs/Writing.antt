@@ -28,7 +28,8 @@ StopOf s frames before after WriteFault = AppendsFront before after (frames_text
 StopOf s frames before after NoMemory = AppendsFrames s frames before after
 
 -- What taking in frames comes to: all of them were taken in, or it stopped.
-abbrev pub TakenOf : {A : Type 0} → Shares → List Came → FairState → Option (List ℕ) → Option (List ℕ) → List ℕ → Result A Stop → Type 0
+abbrev pub TakenOf : {A : Type 0} → Shares → List Came → FairState → Option (List ℕ) → Option (List ℕ) → List ℕ
+    → Result A Stop → Type 0
 TakenOf s frames state before after block (Ok _) = UnderWay s frames state before after block
 TakenOf s frames state before after block (Err stop) = StopOf s frames before after stop
 

@@ -155,7 +155,8 @@ fn push_answer(
     out: &mut Vec<u8>,
 ) -> Result<(), NoMemory>
     requires place { table < length tables.old.tables }
-    requires whole { (slot : SlotNo) → accept ≡ Accept.Whole slot → IsAt tables.old table (λ one. IsWholeSlot one slot.0) }
+    requires whole { (slot : SlotNo) → accept ≡ Accept.Whole slot
+        → IsAt tables.old table (λ one. IsWholeSlot one slot.0) }
     ensures { OnOk result ((before : FairState) (segment : Segment) → ChangesTable table before tables.old (Accepts moment segment accept)
         → ChangesTable table before tables.new
         (Tells (λ limits buffers. offers limits moment (pdu_value pdu.now) (part_value part) segment buffers) moment out.old.items out.new.items)) }

@@ -22,23 +22,28 @@ pub fn other_tables_stay()
 
 /// Where no two shares are of one source, each source that has a share has the table of its share.
 pub fn each_share_has_its_table()
-    ensures { (sources : List (List ℕ)) (i : ℕ) (source : List ℕ) → AreDistinct sources → slice_get sources i ≡ Some source
+    ensures { (sources : List (List ℕ)) (i : ℕ) (source : List ℕ) → AreDistinct sources
+        → slice_get sources i ≡ Some source
         → place_of sources source ≡ i + 1 }
 {}
 
 /// What is told of the frames of a class is what would be told if all other frames were taken out; so it is the same wherever
 /// the frames of the class are, whatever comes beside them. The class of a source that has a share is that source alone.
 pub fn nothing_comes_from_others()
-    ensures alone { (s : Shares) (place : ℕ) (frames : List Came) → accounts_of s place frames ≡ accounts s (frames_of s place frames) }
-    ensures same { (s : Shares) (place : ℕ) (frames others : List Came) → frames_of s place frames ≡ frames_of s place others
+    ensures alone { (s : Shares) (place : ℕ) (frames : List Came)
+        → accounts_of s place frames ≡ accounts s (frames_of s place frames) }
+    ensures same { (s : Shares) (place : ℕ) (frames others : List Came)
+        → frames_of s place frames ≡ frames_of s place others
         → accounts_of s place frames ≡ accounts_of s place others }
-    ensures source { (s : Shares) (i : ℕ) (share : ShareOf) (frames : List Came) → AreDistinct (sources_of s.shares) → slice_get s.shares i ≡ Some share
+    ensures source { (s : Shares) (i : ℕ) (share : ShareOf) (frames : List Came) → AreDistinct (sources_of s.shares)
+        → slice_get s.shares i ≡ Some share
         → filter (λ account. is_from share.from account.came) (accounts s frames) ≡ accounts s (filter (is_from share.from) frames) }
 {}
 
 /// No table passes its numbers, and all tables together never hold more octets than their budgets are in sum.
 pub fn budgets_are_kept()
-    ensures each { (s : Shares) (place : ℕ) (frames : List Came) → KeepTo (limits_at s place) (class_buffers s place frames) }
+    ensures each { (s : Shares) (place : ℕ) (frames : List Came)
+        → KeepTo (limits_at s place) (class_buffers s place frames) }
     ensures sum { (s : Shares) (frames : List Came) → held_by_all s frames ≤ budget_of_all s }
 {}
 
@@ -54,7 +59,8 @@ pub fn a_frame_has_one_value()
 
 /// Buffers whose time has ended are taken out one after the other, the due one first, until none is due.
 pub fn buffers_end_until_none_is_due()
-    ensures none { (now : ℕ) (buffers : List (Buffer Extent)) → due now buffers ≡ None → expire_all now buffers ≡ rests buffers }
+    ensures none { (now : ℕ) (buffers : List (Buffer Extent)) → due now buffers ≡ None
+        → expire_all now buffers ≡ rests buffers }
     ensures next { (now : ℕ) (buffers : List (Buffer Extent)) (ended : Buffer Extent) → due now buffers ≡ Some ended
         → expire_all now buffers ≡ and_then (ends ended buffers) (expire_all now) }
     ensures fewer { (now : ℕ) (buffers : List (Buffer Extent)) (ended : Buffer Extent) → due now buffers ≡ Some ended
@@ -80,7 +86,8 @@ pub fn a_frame_changes_its_class()
 pub fn tables_stand_behind_each_frame()
     ensures unread { (s : Shares) (before : List Came) (came : Came) (state : FairState) → class_of s came ≡ None
         → StandBehind s before state → StandBehind s (before ++ came ∷ []) state }
-    ensures comes { (s : Shares) (place : ℕ) (before : List Came) (came : Came) (old new : FairState) → class_of s came ≡ Some place
+    ensures comes { (s : Shares) (place : ℕ) (before : List Came) (came : Came) (old new : FairState)
+        → class_of s came ≡ Some place
         → StandBehind s before old → ChangesTable place old new (Undergoes (λ limits buffers. comes limits came buffers))
         → StandBehind s (before ++ came ∷ []) new }
 {}

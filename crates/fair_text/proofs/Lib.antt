@@ -1,6 +1,5 @@
 pub use Rattle.scenario.proofs.ClnpBase
 pub use Rattle.fair_reassembly.proofs as FairReassembly
-mod Worths
 pub mod Sums
 pub mod Accepted
 pub mod Apart

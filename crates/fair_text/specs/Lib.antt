@@ -9,4 +9,3 @@ pub mod Grammar
 pub mod Output
 pub mod Refusal
 pub mod Telling
-pub mod Worths

@@ -2,19 +2,40 @@
 ghost use Rattle.std.specs.Prelude.{◌≡◌, ◌+◌, ◌<◌, ◌≤◌, ◌∷◌, ◌++◌, [], ◌^◌, map, sum, length, true, IfOk, Ok, Err, MatchResult};
 ghost use Rattle.std.specs.Str.{bytes_eq};
 ghost use Rattle.scenario.specs.ClnpBase.Text.{words_of};
+ghost use Rattle.scenario.specs.Refusal.{Faults};
 ghost use Rattle.fair_reassembly.specs.Reassembly.declared.table.TableLimits.{TableLimits as Limits};
-ghost use Rattle.fair_text.specs.Grammar.{are_few, has_share, more_shares, others_line, share_line};
-ghost use Rattle.fair_text.specs.Refusal.{Faults};
+ghost use Rattle.fair_text.specs.Grammar.{are_few, budget_word, has_share, more_shares, others_line, segments_word, share_line, slots_word};
 ghost use Rattle.fair_reassembly.specs.Tables.{limits_of};
 
-use crate::fault::LineFault;
-use crate::word::{
-    address_word, budget_word, five_words, literal, number_word, segments_word, slots_word,
-};
 use fair_reassembly::Share;
 use fair_reassembly::reassembly::TableLimits;
-use scenario::Code;
 use scenario::nsap::Address;
+use scenario::word::{address_word, five_words, literal, number_word};
+use scenario::{Code, LineFault};
+
+/// How many buffers a table has at most.
+fn slots_word(word: &[u8]) -> Result<u16, Code>
+    ensures { result ≡ slots_word word.now }
+{
+    let slots = number_word(1, 1024, word)?;
+    Ok(slots as u16)
+}
+
+/// How many segments a table keeps at most.
+fn segments_word(word: &[u8]) -> Result<u16, Code>
+    ensures { result ≡ segments_word word.now }
+{
+    let segments = number_word(1, 16384, word)?;
+    Ok(segments as u16)
+}
+
+/// How many octets a table holds at most.
+fn budget_word(word: &[u8]) -> Result<u32, Code>
+    ensures { result ≡ budget_word word.now }
+{
+    let budget = number_word(512, 4_194_304, word)?;
+    Ok(budget as u32)
+}
 
 /// The numbers of the table of all sources without a share.
 pub(crate) fn others_line(line: &[u8]) -> Result<TableLimits, Code>

@@ -1,6 +1,5 @@
-//! Why a text or one of its lines is refused.
+//! Why a text is refused.
 
-use scenario::Code;
 use std::alloc::AllocFailed;
 
 /// Why a text isn't one of captured traffic.
@@ -20,36 +19,5 @@ impl<T: Drop> From<AllocFailed<T>> for CaptureRefusal {
 
     fn from(_refused: AllocFailed<T>) -> CaptureRefusal {
         CaptureRefusal::NoMemory
-    }
-}
-
-/// Why a line isn't read.
-#[derive(Clone, Copy, Debug)]
-pub(crate) enum LineFault {
-    /// What the line breaks.
-    Broken(Code),
-    /// Memory was refused.
-    NoMemory,
-}
-
-impl From<Code> for LineFault {
-    ghost use Rattle.std.specs.Prelude.{◌≡◌};
-    ghost use Rattle.fair_text.specs.declared.fault.LineFault.TheVariants.{Broken};
-
-    ghost from_gives = { λ code fault. fault ≡ Broken code };
-
-    fn from(code: Code) -> LineFault {
-        LineFault::Broken(code)
-    }
-}
-
-impl<T: Drop> From<AllocFailed<T>> for LineFault {
-    ghost use Rattle.std.specs.Prelude.{◌≡◌};
-    ghost use Rattle.fair_text.specs.declared.fault.LineFault.TheVariants.{NoMemory};
-
-    ghost from_gives = { λ _ fault. fault ≡ NoMemory };
-
-    fn from(_refused: AllocFailed<T>) -> LineFault {
-        LineFault::NoMemory
     }
 }

@@ -1,16 +1,15 @@
 //! The lines of frames.
 ghost use Rattle.std.specs.Prelude.{◌≡◌, ◌≤◌, IfOk, length, Ok, Err, MatchResult};
 ghost use Rattle.scenario.specs.ClnpBase.Text.{words_of};
+ghost use Rattle.scenario.specs.Refusal.{Faults};
+ghost use Rattle.scenario.specs.Words.{frame_word};
 ghost use Rattle.fair_text.specs.Grammar.{frame_line, next_frame};
-ghost use Rattle.fair_text.specs.Refusal.{Faults};
 
-use crate::digits::DigitValues;
-use crate::fault::LineFault;
-use crate::word::{number_word, two_words};
 use fair_reassembly::Came;
-use scenario::Code;
-use scenario::clnp_base::same;
+use scenario::clnp_base::{DigitValues, same};
 use scenario::clnp_views::Frame;
+use scenario::word::{number_word, two_words};
+use scenario::{Code, LineFault};
 use std::alloc::Global;
 
 /// The most octets of a frame.
@@ -19,6 +18,25 @@ const MOST_OCTETS: usize = 70_000;
 const MOST_FRAMES: usize = 100_000;
 /// The last moment.
 const LAST_MOMENT: u64 = 4_294_967_295;
+
+/// The octets that a word of an even number of digits spells, in either case.
+fn octets_of(alloc: Global, values: &DigitValues, word: &[u8]) -> Result<Vec<u8>, LineFault>
+    ensures { let reading = frame_word word.now in
+        MatchResult result (λ octets. reading ≡ Ok octets.items) (λ fault. Faults fault reading) }
+{
+    if word.len() % 2 != 0 {
+        return Err(LineFault::Broken(Code::Address));
+    }
+    let mut octets = Vec::new(alloc);
+    let Ok(()) = octets.resize(word.len() / 2, 0) else {
+        return Err(LineFault::NoMemory);
+    };
+    if values.decode(word, &mut octets) {
+        Ok(octets)
+    } else {
+        Err(LineFault::Broken(Code::Address))
+    }
+}
 
 /// The frame of a line, at a moment that isn't before `last`.
 fn frame_line(
@@ -37,7 +55,7 @@ fn frame_line(
         return Err(LineFault::Broken(Code::Syntax));
     }
     let moment = number_word(last, LAST_MOMENT, moment)?;
-    let octets = values.read(alloc, digits)?;
+    let octets = octets_of(alloc, values, digits)?;
     if octets.len() > MOST_OCTETS {
         return Err(LineFault::Broken(Code::Count));
     }

@@ -8,8 +8,10 @@ ghost use Rattle.fair_text.specs.Output.{class_alone, end_line, lines_of_class, 
 /// Of any text that is accepted, the lines of a source with a share are those of a text that says the same but for the frames
 /// of all other sources, which are taken out; and so are those of all sources without a share together.
 pub fn a_share_is_apart()
-    ensures { (text other : List ℕ) (capture alone : Capture) (place : ℕ) → capture_of text ≡ Ok capture → capture_of other ≡ Ok alone
-        → alone ≡ class_alone place capture → output_of alone ≡ lines_of_class place capture ++ end_line (length alone.frames) }
+    ensures { (text other : List ℕ) (capture alone : Capture) (place : ℕ) → capture_of text ≡ Ok capture
+        → capture_of other ≡ Ok alone
+        → alone ≡ class_alone place capture
+        → output_of alone ≡ lines_of_class place capture ++ end_line (length alone.frames) }
 {}
 
 /// A source that has a share gets the lines that it would get alone, and no table holds more than its budget.

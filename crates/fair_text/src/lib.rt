@@ -3,13 +3,11 @@
 
 mod capture;
 mod declaration;
-mod digits;
 mod fault;
 mod frame_line;
 pub mod laws;
 mod reader;
 mod told;
-mod word;
 
 pub use capture::Capture;
 pub use fair_reassembly;

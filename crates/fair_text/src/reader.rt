@@ -9,14 +9,13 @@ ghost use Rattle.fair_text.specs.Refusal.{Refuses};
 
 use crate::capture::Capture;
 use crate::declaration::{declare_share, others_line};
-use crate::digits::DigitValues;
-use crate::fault::{CaptureRefusal, LineFault};
+use crate::fault::CaptureRefusal;
 use crate::frame_line::next_frame;
-use crate::word::{is_line_of, is_skipped};
 use fair_reassembly::reassembly::TableLimits;
 use fair_reassembly::{Came, Share};
-use scenario::Code;
-use scenario::clnp_base::{next_line, same};
+use scenario::clnp_base::{DigitValues, next_line, same};
+use scenario::word::{is_line_of, is_skipped};
+use scenario::{Code, LineFault};
 use std::alloc::Global;
 
 /// A line that breaks the grammar, by its number and the code's.

@@ -1,13 +1,15 @@
 //! The lines that tell what comes of frames: words separated by one space, each line ended by `\n`.
-ghost use Rattle.std.specs.Prelude.{◌≡◌, [], ◌∷◌, ◌++◌, codes, map, OnOk};
+ghost use Rattle.std.specs.Prelude.{◌≡◌, [], ◌∷◌, ◌++◌, codes, OnOk};
 ghost use Rattle.std.specs.Fmt.{decimal};
 ghost use Rattle.scenario.specs.Nsap.Text.{hex_text};
 ghost use Rattle.scenario.specs.PduHeader.Spelling.{pair_of};
 ghost use Rattle.scenario.specs.ClnpPlan.Journal.{kind_word, line_of, octets_word};
+ghost use Rattle.scenario.specs.ClnpPlan.Words.{word_text};
 ghost use Rattle.fair_text.specs.Output.{end_line, told_line};
-ghost use Rattle.fair_text.specs.Telling.{told_by, word_text};
+ghost use Rattle.fair_text.specs.Telling.{told_by};
 
-use scenario::clnp_base::{NoMemory, push, push_decimal, push_hex};
+use scenario::clnp_base::NoMemory;
+use scenario::clnp_plan::{Word, kind_word, octets_word, push_line};
 use scenario::nsap::Address;
 use scenario::pdu_header::Kind;
 
@@ -127,21 +129,6 @@ pub fn push_end(frames: usize, out: &mut Vec<u8>) -> Result<(), NoMemory>
     push_line(Word::Text(b"end"), &[Word::Number(frames as u64)], out)
 }
 
-/// A word of a line.
-#[derive(Clone, Copy)]
-enum Word<'a> {
-    /// A text as it stands.
-    Text(&'a [u8]),
-    /// A number, in decimal digits.
-    Number(u64),
-    /// A data unit identifier, in four hexadecimal digits.
-    Identifier(u16),
-    /// Octets, in two hexadecimal digits each.
-    Octets(&'a [u8]),
-    /// An address, in two hexadecimal digits an octet.
-    Address(&'a Address),
-}
-
 /// Appends the line of a buffer whose time has ended.
 fn push_expired<'a>(
     moment: u64,
@@ -250,51 +237,4 @@ fn push_two<'a>(
 {
     let words = [Word::Text(label), Word::Address(from), one, two];
     push_line(Word::Number(moment), &words, out)
-}
-
-/// Appends a line of words.
-fn push_line<'a>(first: Word<'a>, others: &[Word<'a>], out: &mut Vec<u8>) -> Result<(), NoMemory>
-    ensures { OnOk result (out.new.items ≡ out.old.items ++ line_of (word_text first.entry) (map word_text others.now)) }
-{
-    push_word(first, out)?;
-    for word in others {
-        push(b" ", out)?;
-        push_word(*word, out)?;
-    }
-    push(b"\n", out)
-}
-
-/// Appends a word.
-fn push_word(word: Word<'_>, out: &mut Vec<u8>) -> Result<(), NoMemory>
-    ensures { OnOk result (out.new.items ≡ out.old.items ++ word_text word.entry) }
-{
-    match word {
-        Word::Text(text) => push(text, out),
-        Word::Number(number) => push_decimal(number, out),
-        Word::Identifier(identifier) => push_hex(&identifier.to_be_bytes(), out),
-        Word::Octets(octets) => push_hex(octets, out),
-        Word::Address(address) => push_hex(address.as_bytes(), out),
-    }
-}
-
-/// The word of a kind of PDU.
-fn kind_word(kind: Kind) -> Word<'static>
-    ensures { word_text result ≡ kind_word kind }
-{
-    match kind {
-        Kind::Dt => Word::Text(b"dt"),
-        Kind::Er => Word::Text(b"er"),
-        Kind::Erq => Word::Text(b"erq"),
-        Kind::Erp => Word::Text(b"erp"),
-    }
-}
-
-/// The word of octets, which is `-` for none.
-fn octets_word(octets: &[u8]) -> Word<'_>
-    ensures { word_text result ≡ octets_word octets.now }
-{
-    if octets.is_empty() {
-        return Word::Text(b"-");
-    }
-    Word::Octets(octets)
 }

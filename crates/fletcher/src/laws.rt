@@ -11,8 +11,10 @@ pub fn one_checksum()
 
 /// A header that is sealed is what `sealed` makes of any header that has the same other octets.
 pub fn sealed_is_unique()
-    ensures of_other { (head other : List ℕ) → 9 ≤ length head → SharesOthers head other → octet other 8 < 256 → octet other 9 < 256 → IsSealed other → other ≡ sealed head }
-    ensures of_bare { (head : List ℕ) → 9 ≤ length head → octet head 8 < 256 → octet head 9 < 256 → IsSealed head → head ≡ sealed (without_checksum head) }
+    ensures of_other { (head other : List ℕ) → 9 ≤ length head → SharesOthers head other → octet other 8 < 256
+        → octet other 9 < 256 → IsSealed other → other ≡ sealed head }
+    ensures of_bare { (head : List ℕ) → 9 ≤ length head → octet head 8 < 256 → octet head 9 < 256 → IsSealed head
+        → head ≡ sealed (without_checksum head) }
 {}
 
 /// What `sealed` makes has the other octets of its header, and doesn't depend on octets 8 and 9.

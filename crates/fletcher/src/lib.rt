@@ -70,7 +70,8 @@ pub fn adjust(head: &mut [u8], place: usize, new: u8)
     ensures in_use { octet head.old 8 ≢ 0 → octet head.old 9 ≢ 0 → KeepsSums head.old head.new }
 
     // A header that was sealed is sealed again.
-    ensures resealed { (plain : List ℕ) → head.old ≡ sealed plain → head.new ≡ sealed (slice_set plain (place - 1) new) }
+    ensures resealed { (plain : List ℕ) → head.old ≡ sealed plain
+        → head.new ≡ sealed (slice_set plain (place - 1) new) }
 {
     let old = head[place - 1];
     let octet_8 = head[7];

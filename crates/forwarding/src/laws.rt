@@ -37,8 +37,10 @@ pub fn one_place_is_twice()
 /// A route that is set is the one of its prefix, and a prefix that is removed has none; of every other prefix there is the route
 /// that there was.
 pub fn each_prefix_has_its_route()
-    ensures set { (route : Route) (routes : List Route) → find (has_prefix route.prefix) (set_in route routes) ≡ Some route }
-    ensures removed { (prefix : List ℕ) (routes : List Route) → find (has_prefix prefix) (without prefix routes) ≡ None }
+    ensures set { (route : Route) (routes : List Route)
+        → find (has_prefix route.prefix) (set_in route routes) ≡ Some route }
+    ensures removed { (prefix : List ℕ) (routes : List Route)
+        → find (has_prefix prefix) (without prefix routes) ≡ None }
     ensures others_set { (route : Route) (other : List ℕ) (routes : List Route) → route.prefix ≢ other
         → find (has_prefix other) (set_in route routes) ≡ find (has_prefix other) routes }
     ensures others_removed { (prefix other : List ℕ) (routes : List Route) → prefix ≢ other
@@ -48,5 +50,6 @@ pub fn each_prefix_has_its_route()
 /// Where no two routes have one prefix, none have after one is set and after a prefix is removed.
 pub fn changed_routes_differ()
     ensures set { (route : Route) (routes : List Route) → AreDistinct routes → AreDistinct (set_in route routes) }
-    ensures removed { (prefix : List ℕ) (routes : List Route) → AreDistinct routes → AreDistinct (without prefix routes) }
+    ensures removed { (prefix : List ℕ) (routes : List Route) → AreDistinct routes
+        → AreDistinct (without prefix routes) }
 {}

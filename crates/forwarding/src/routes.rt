@@ -65,7 +65,8 @@ impl Routes {
     fn put(&mut self, route: Route) -> Result<bool, NoMemory>
         ensures there { (list : List Route) → Stands self.old list
             → IfOk result (λ there. there ≡ list_any (has_prefix route.prefix) list) }
-        ensures stands { (list : List Route) → Stands self.old list → OnOk result (Stands self.new (set_in route list)) }
+        ensures stands { (list : List Route) → Stands self.old list
+            → OnOk result (Stands self.new (set_in route list)) }
         ensures same { (list : List Route) → Stands self.old list → OnErr result (Stands self.new list) }
     {
         let old = self.by_length[route.prefix.len()].insert(route.prefix, route)?;
@@ -86,7 +87,8 @@ impl Routes {
     ///
     /// `NoMemory`; the routes are then as they were.
     pub fn set(&mut self, _alloc: Global, route: Route) -> Result<(), NoMemory>
-        ensures stands { (list : List Route) → Stands self.old list → OnOk result (Stands self.new (set_in route list)) }
+        ensures stands { (list : List Route) → Stands self.old list
+            → OnOk result (Stands self.new (set_in route list)) }
         ensures same { (list : List Route) → Stands self.old list → OnErr result (Stands self.new list) }
     {
         self.put(route)?;

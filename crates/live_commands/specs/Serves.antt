@@ -9,7 +9,7 @@ use Rattle.scenario.specs.Grammar.{BadLine, run_plan_of}
 use Rattle.scenario.specs.Scenario.{Plan}
 use Rattle.live_node.specs.Ran.{RanOf}
 use Rattle.live_node.specs.declared.run.RunStop.{RunStop}
-use Rattle.live_node.specs.declared.run.RunStop.TheVariants as stop
+use Rattle.live_node.specs.declared.run.RunStop.TheVariants as run_stop
 
 -- What the scenario calls for: all turns are run, or at the end of one of them no link is attached.
 abbrev pub AnswersPlan : Result Plan BadLine → Status → Type 0
@@ -41,16 +41,18 @@ pub record RefusesText (links line code : ℕ) (left_before left_after : Option 
 -- What a call comes to, by its answer: `left` is what the source has left, `before` and `after` what stands in the sink, where
 -- they tell it; `untouched` says that sink, board and clock are as they were, `read_rose` and `write_rose` that source and sink
 -- failed in this call.
-abbrev pub ComesToRun : Status → (turns : ℕ) → (left_before left_after before after : Option (List ℕ)) → (ports_before ports_after : List PortState) → (moments_before moments_after : Option (List ℕ)) → (untouched read_rose write_rose : Type 0) → Type 0
+abbrev pub ComesToRun : Status → (turns : ℕ) → (left_before left_after before after : Option (List ℕ))
+    → (ports_before ports_after : List PortState) → (moments_before moments_after : Option (List ℕ))
+    → (untouched read_rose write_rose : Type 0) → Type 0
 ComesToRun Done turns left_before left_after before after ports_before ports_after moments_before moments_after untouched read_rose write_rose =
     RunsText turns left_before left_after before after ports_before ports_after moments_before moments_after (Ok tt)
 ComesToRun (LinksGone links) turns left_before left_after before after ports_before ports_after moments_before moments_after untouched read_rose write_rose =
-    RunsText turns left_before left_after before after ports_before ports_after moments_before moments_after (Err (stop.LinksGone links))
+    RunsText turns left_before left_after before after ports_before ports_after moments_before moments_after (Err (run_stop.LinksGone links))
 ComesToRun WriteFault turns left_before left_after before after ports_before ports_after moments_before moments_after untouched read_rose write_rose =
-    write_rose × RunsText turns left_before left_after before after ports_before ports_after moments_before moments_after (Err stop.WriteFault)
+    write_rose × RunsText turns left_before left_after before after ports_before ports_after moments_before moments_after (Err run_stop.WriteFault)
 ComesToRun NoMemory turns left_before left_after before after ports_before ports_after moments_before moments_after untouched read_rose write_rose =
     (TakesWithin left_before left_after × untouched)
-    ⊎ RunsText turns left_before left_after before after ports_before ports_after moments_before moments_after (Err stop.NoMemory)
+    ⊎ RunsText turns left_before left_after before after ports_before ports_after moments_before moments_after (Err run_stop.NoMemory)
 ComesToRun (BadInput line code) turns left_before left_after before after ports_before ports_after moments_before moments_after untouched read_rose write_rose =
     RefusesText (length ports_before) line code left_before left_after × untouched
 ComesToRun TooLong turns left_before left_after before after ports_before ports_after moments_before moments_after untouched read_rose write_rose =
@@ -73,9 +75,9 @@ pub record ServesRun (turns : ℕ) (left_before left_after before after : Option
 -- a status that the run of a node comes to, and what is so of the run's result then
 abbrev pub RunEndsAs : Status → (Result (Unit {0}) RunStop → Type 0) → Type 0
 RunEndsAs Done Ran = Ran (Ok tt)
-RunEndsAs (LinksGone links) Ran = Ran (Err (stop.LinksGone links))
-RunEndsAs WriteFault Ran = Ran (Err stop.WriteFault)
-RunEndsAs NoMemory Ran = Ran (Err stop.NoMemory)
+RunEndsAs (LinksGone links) Ran = Ran (Err (run_stop.LinksGone links))
+RunEndsAs WriteFault Ran = Ran (Err run_stop.WriteFault)
+RunEndsAs NoMemory Ran = Ran (Err run_stop.NoMemory)
 RunEndsAs (BadInput line code) Ran = ⊥
 RunEndsAs TooLong Ran = ⊥
 RunEndsAs ReadFault Ran = ⊥
@@ -89,15 +91,17 @@ pub record RunsPlan (text : List ℕ) (turns : ℕ) (before after : Option (List
   pub ran : RanOf plan turns moments_before moments_after ports_before ports_after before after result
 
 -- what a text comes to, by the answer
-abbrev pub TextComesTo : Status → (text : List ℕ) → (turns : ℕ) → (before after : Option (List ℕ)) → (ports_before ports_after : List PortState) → (moments_before moments_after : Option (List ℕ)) → (untouched : Type 0) → Type 0
+abbrev pub TextComesTo : Status → (text : List ℕ) → (turns : ℕ) → (before after : Option (List ℕ))
+    → (ports_before ports_after : List PortState) → (moments_before moments_after : Option (List ℕ))
+    → (untouched : Type 0) → Type 0
 TextComesTo Done text turns before after ports_before ports_after moments_before moments_after untouched =
     RunsPlan text turns before after ports_before ports_after moments_before moments_after (Ok tt)
 TextComesTo (LinksGone links) text turns before after ports_before ports_after moments_before moments_after untouched =
-    RunsPlan text turns before after ports_before ports_after moments_before moments_after (Err (stop.LinksGone links))
+    RunsPlan text turns before after ports_before ports_after moments_before moments_after (Err (run_stop.LinksGone links))
 TextComesTo WriteFault text turns before after ports_before ports_after moments_before moments_after untouched =
-    RunsPlan text turns before after ports_before ports_after moments_before moments_after (Err stop.WriteFault)
+    RunsPlan text turns before after ports_before ports_after moments_before moments_after (Err run_stop.WriteFault)
 TextComesTo NoMemory text turns before after ports_before ports_after moments_before moments_after untouched =
-    untouched ⊎ RunsPlan text turns before after ports_before ports_after moments_before moments_after (Err stop.NoMemory)
+    untouched ⊎ RunsPlan text turns before after ports_before ports_after moments_before moments_after (Err run_stop.NoMemory)
 TextComesTo (BadInput line code) text turns before after ports_before ports_after moments_before moments_after untouched =
     (run_plan_of (length ports_before) text ≡ Err (record { line = line; code = code })) × untouched
 TextComesTo TooLong text turns before after ports_before ports_after moments_before moments_after untouched = ⊥

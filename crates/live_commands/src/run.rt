@@ -3,6 +3,7 @@ ghost use Rattle.std.specs.Prelude.{◌≡◌, ◌≢◌, ◌≤◌, ◌⊎◌, 
 ghost use Rattle.command_base.specs.ClnpBase.Streams.{Rose};
 ghost use Rattle.command_base.specs.ComesAs.{most_input};
 ghost use Rattle.command_base.specs.Reading.{ReadsWhole, TakesTooMany, TakesWithin};
+ghost use Rattle.live_commands.specs.Advised.{IsAdvised};
 ghost use Rattle.live_commands.specs.Serves.{RunEndsAs, ServesRun, TextComesTo};
 ghost use Rattle.live_node.specs.Ran.{RanOf};
 ghost use Rattle.scenario.specs.Scenario.{IsForBoard};
@@ -12,6 +13,7 @@ use link_board::Ports;
 use link_board::clnp_base::{Clock, ReadStop, Sink, Source, read_all};
 use live_node::{RunStop, run_node};
 use scenario::{Scenario, ScenarioRefusal, read_for_run};
+use scenario_advice::{Advice, of_scenario_for_run};
 use std::alloc::Global;
 
 /// The most octets of an input.
@@ -20,6 +22,8 @@ const MOST_INPUT: usize = 16_777_216;
 /// Reads a scenario of one system, which has a port for each link of the board, and runs that system over them for so many
 /// turns: what it writes is the system's journal. Nothing is written, no link is called and the clock isn't read before the whole
 /// text was accepted.
+///
+/// `advice` gets what the author of a refused text is told beside its first bad line, and else stays as it is.
 pub fn run_system<S: Source, K: Sink, C: Clock, B: Ports>(
     alloc: Global,
     turns: u32,
@@ -27,16 +31,18 @@ pub fn run_system<S: Source, K: Sink, C: Clock, B: Ports>(
     board: &mut B,
     clock: &mut C,
     sink: &mut K,
+    advice: &mut Advice,
 ) -> Status
     ensures later { (S.faults source.old ≤ S.faults source.new) × (K.faults sink.old ≤ K.faults sink.new) × (C.last clock.old ≤ C.last clock.new) }
     ensures serves { ServesRun turns (S.left source.old) (S.left source.new) (K.written sink.old) (K.written sink.new)
         (B.ports board.old) (B.ports board.new) (C.moments clock.old) (C.moments clock.new)
         ((sink.new ≡ sink.old) × ((board.new ≡ board.old) × (clock.new ≡ clock.old)))
         (Rose (S.faults source.old) (S.faults source.new)) (Rose (K.faults sink.old) (K.faults sink.new)) result }
+    ensures advised { IsAdvised result advice.old advice.new }
 {
     let mut text = Vec::new(alloc);
     match read_all(alloc, source, MOST_INPUT, &mut text) {
-        Ok(()) => run_text(alloc, turns, text.as_slice(), board, clock, sink),
+        Ok(()) => run_text(alloc, turns, text.as_slice(), board, clock, sink, advice),
         Err(ReadStop::Failed) => Status::ReadFault,
         Err(ReadStop::TooLong) => Status::TooLong,
         Err(ReadStop::NoMemory) => Status::NoMemory,
@@ -51,6 +57,7 @@ fn run_text<K: Sink, C: Clock, B: Ports>(
     board: &mut B,
     clock: &mut C,
     sink: &mut K,
+    advice: &mut Advice,
 ) -> Status
     requires { length text.now ≤ most_input }
     ensures later { (K.faults sink.old ≤ K.faults sink.new) × (C.last clock.old ≤ C.last clock.new) }
@@ -58,10 +65,15 @@ fn run_text<K: Sink, C: Clock, B: Ports>(
         (B.ports board.old) (B.ports board.new) (C.moments clock.old) (C.moments clock.new)
         ((sink.new ≡ sink.old) × ((board.new ≡ board.old) × (clock.new ≡ clock.old))) }
     ensures failed { result ≡ Status.WriteFault → Rose (K.faults sink.old) (K.faults sink.new) }
+    ensures advised { IsAdvised result advice.old advice.new }
 {
-    match read_for_run(alloc, text, board.count()) {
+    let links = board.count();
+    match read_for_run(alloc, text, links) {
         Ok(scenario) => run_scenario(alloc, turns, &scenario, board, clock, sink),
-        Err(ScenarioRefusal::BadLine { line, code }) => Status::BadInput { line, code },
+        Err(ScenarioRefusal::BadLine { line, code }) => {
+            *advice = of_scenario_for_run(text, links, line, code);
+            Status::BadInput { line, code }
+        }
         Err(ScenarioRefusal::NoMemory) => Status::NoMemory,
     }
 }

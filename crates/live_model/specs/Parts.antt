@@ -61,7 +61,8 @@ UsesAll Strays = ⊥
 pub record HasNextCall (play : List Outcome → Played) (outcomes : List Outcome) : Type 0 where
   pub call : Call
   pub follows : (outcome : Outcome) → is_of call outcome ≡ true → UsesAll (play (outcomes ++ outcome ∷ []))
-  pub strays : (outcome : Outcome) (rest : List Outcome) → is_of call outcome ≡ false → play (outcomes ++ outcome ∷ rest) ≡ Strays
+  pub strays : (outcome : Outcome) (rest : List Outcome) → is_of call outcome ≡ false
+      → play (outcomes ++ outcome ∷ rest) ≡ Strays
 
 -- what holds of a run whose turns are all over, of the node after them and of the lines
 abbrev pub IfWhole : Course → (Node → List NodeLine → Type 0) → Type 0

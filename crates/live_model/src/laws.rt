@@ -20,12 +20,15 @@ ghost use Rattle.live_model.specs.Steps.{TakesSteps, inputs_of, last_moment};
 /// The run of a scenario of one system is that of this system's turns, from the moment at which it started. Its system is quiet
 /// then for as long as identifiers rest: none is drawn before, and from then on none is refused for quiet (ISO 8473, section 6.8).
 pub fn a_run_begins_quiet()
-    ensures run { (plan : Plan) (system : SystemConfiguration) (attached : List Bool) (transcript : Transcript) → plan.systems ≡ system ∷ []
+    ensures run { (plan : Plan) (system : SystemConfiguration) (attached : List Bool) (transcript : Transcript)
+        → plan.systems ≡ system ∷ []
         → node_run plan attached transcript
         ≡ course (dues_from transcript.start plan.events) (first_node plan.limits system transcript.start attached) transcript.turns }
-    ensures quiet { (limits : Limits) (system : SystemConfiguration) (start now : ℕ) (attached : List Bool) → now < start + limits.reuse
+    ensures quiet { (limits : Limits) (system : SystemConfiguration) (start now : ℕ) (attached : List Bool)
+        → now < start + limits.reuse
         → not_drawn now (first_node limits system start attached).system.identifiers ≡ Some (IsQuiet (start + limits.reuse)) }
-    ensures rested { (limits : Limits) (system : SystemConfiguration) (start now : ℕ) (attached : List Bool) → start + limits.reuse ≤ now
+    ensures rested { (limits : Limits) (system : SystemConfiguration) (start now : ℕ) (attached : List Bool)
+        → start + limits.reuse ≤ now
         → not_drawn now (first_node limits system start attached).system.identifiers ≡ None }
 {}
 
@@ -54,10 +57,12 @@ pub fn what_comes_later_changes_nothing_before()
 /// call's outcome at one of their places they stray, whatever follows. Where outcomes stray, or are left behind a turn, the run
 /// is none.
 pub fn each_outcome_is_of_its_call()
-    ensures next { (inputs : List Input) (node : Node) (front : List Outcome) → IsUnfinished (takes_turn inputs node front)
+    ensures next { (inputs : List Input) (node : Node) (front : List Outcome)
+        → IsUnfinished (takes_turn inputs node front)
         → HasNextCall (λ outcomes. takes_turn inputs node outcomes) front }
     ensures fewer { (inputs : List Input) (node : Node) (front : List Outcome) (outcome : Outcome) (rest : List Outcome) (last : Node) (lines : List NodeLine)
-        → takes_turn inputs node (front ++ outcome ∷ rest) ≡ Goes last [] lines → IsUnfinished (takes_turn inputs node front) }
+        → takes_turn inputs node (front ++ outcome ∷ rest) ≡ Goes last [] lines
+        → IsUnfinished (takes_turn inputs node front) }
     ensures others { (inputs : List Input) (node : Node) (front : List Outcome) (outcome : Outcome) (rest : List Outcome) (last : Node) (lines : List NodeLine)
         → takes_turn inputs node (front ++ outcome ∷ rest) ≡ Goes last [] lines
         → (other : Outcome) (others : List Outcome) → is_of (call_of outcome) other ≡ false
@@ -74,7 +79,8 @@ pub fn each_outcome_is_of_its_call()
 /// In each turn each port whose link is attached when the turn comes to it is looked at once, in order, and no other; all other
 /// outcomes are those of frames that were sent.
 pub fn each_port_is_looked_at_once()
-    ensures { (dues : List Due) (node : Node) (turns : List Turn) → IfWhole (course dues node turns) (λ last lines. EachLooksOnce node.attached turns) }
+    ensures { (dues : List Due) (node : Node) (turns : List Turn)
+        → IfWhole (course dues node turns) (λ last lines. EachLooksOnce node.attached turns) }
 {}
 
 /// A port is detached where its link failed, and nowhere else: the outcomes at a port end with the failure, if one is there; a
@@ -120,5 +126,6 @@ pub fn events_are_done_in_order()
         → done_in moments (dues_from start events) ++ waiting_behind moments (dues_from start events) ≡ dues_from start events }
     ensures first { (before : List ℕ) (now : ℕ) (dues : List Due)
         → AllByRecursion (IsFirstDue before now) (due_by now (waiting_behind before dues)) }
-    ensures waiting { (moments : List ℕ) (dues : List Due) → AllByRecursion (IsLaterThan moments) (waiting_behind moments dues) }
+    ensures waiting { (moments : List ℕ) (dues : List Due)
+        → AllByRecursion (IsLaterThan moments) (waiting_behind moments dues) }
 {}

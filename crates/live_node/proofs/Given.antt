@@ -1,30 +1,17 @@
 -- The outputs of a step of a system go out as those of the model.
-use Rattle.std.proofs.Common.{◌≡◌, ℕ, List, [], ◌∷◌, ◌++◌, inl, inr, refl, sym, ap, ◌∙◌, subst}
+use Rattle.std.proofs.Common.{◌≡◌, ℕ, List, [], ◌∷◌, ◌++◌, inl, inr, refl, sym, ap, ◌∙◌, subst, Some}
 use Rattle.clnp_machine.specs.ClnpPlan.declared.config.Role.{Role}
-use Rattle.clnp_machine.specs.ClnpPlan.declared.config.Role.TheVariants.{Host, Router}
 use Rattle.clnp_machine.specs.ClnpPlan.declared.output.Output.{Output}
 use Rattle.clnp_machine.specs.ClnpPlan.declared.output.Output.TheVariants.{Transmit, Note}
 use Rattle.clnp_machine.specs.Content.{Content}
-use Rattle.clnp_machine.specs.Given.{AppendsFor, GiveAllFor, GivesFor}
+use Rattle.clnp_machine.specs.Given.{Appends, GiveAll, Gives}
 use Rattle.clnp_machine.specs.System as machine
-use Rattle.clnp_machine.proofs.Given.{appends_for}
 use Rattle.clnp_systems.specs.SystemEntity.Steps.{AppendsOf, input_with}
 use Rattle.clnp_systems.specs.SystemEntity.declared.input.Input.{Input}
-use Rattle.clnp_systems.specs.SystemEntity.declared.input.Input.TheVariants as coming
+use Rattle.clnp_systems.proofs.Given.{gives_any}
 use Rattle.live_node.specs.Outputs.{PutAllOut, PutsOut}
 
--- what is given out is what a system gives out where a frame came, whatever came
-gives_any : (input : Input) (role : Role) (content : Content) (moment : ℕ) (before after : List Output) (others : List machine.Output)
-    → AppendsOf (input_with content input) role moment before after others → AppendsFor moment content before after others
-gives_any (coming.Moment now) role content moment before after others h = appends_for moment content before after others h
-gives_any (coming.Frame port from group frame) Host content moment before after others h = appends_for moment content before after others h
-gives_any (coming.Frame port from group frame) Router content moment before after others h = h
-gives_any (coming.Send from to body ask) role content moment before after others h = appends_for moment content before after others h
-gives_any (coming.Echo from to body) role content moment before after others h = appends_for moment content before after others h
-gives_any coming.Restart role content moment before after others h = appends_for moment content before after others h
-gives_any (coming.Congest on) role content moment before after others h = appends_for moment content before after others h
-
-puts_for : (moment : ℕ) (content : Content) (output : Output) (other : machine.Output) → GivesFor moment content output other → PutsOut output other
+puts_for : (moment : ℕ) (content : Content) (output : Output) (other : machine.Output) → Gives moment (Some content) output other → PutsOut output other
 puts_for moment content (Note note) (machine.Notes told) h = h
 puts_for moment content (Note note) (machine.Transmits port target packet) h = absurd h
 puts_for moment content (Note note) (machine.SendsEsis port target value) h = absurd h
@@ -36,7 +23,7 @@ puts_for moment content (Transmit sending) (machine.Transmits port target packet
 puts_for moment content (Transmit sending) (machine.SendsEsis port target value) h =
     record { port_is = h.port_is; target_is = h.target_is; octets_are = h.octets }
 
-put_all_for : (moment : ℕ) (content : Content) (outputs : List Output) (others : List machine.Output) → GiveAllFor moment content outputs others → PutAllOut outputs others
+put_all_for : (moment : ℕ) (content : Content) (outputs : List Output) (others : List machine.Output) → GiveAll moment (Some content) outputs others → PutAllOut outputs others
 put_all_for moment content [] [] h = tt
 put_all_for moment content [] (other ∷ others) h = absurd h
 put_all_for moment content (output ∷ outputs) [] h = absurd h

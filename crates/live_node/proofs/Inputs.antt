@@ -1,7 +1,7 @@
 -- What comes to a node's system before it looks.
 use Rattle.std.proofs.Common.{◌≡◌, ◌∙◌, ap, refl, sym, ℕ, List, [], ◌∷◌, ◌++◌, append-nil}
 use Rattle.clnp_machine.specs.System.{Input}
-use Rattle.clnp_systems.specs.Stands as systems
+use Rattle.clnp_systems.specs.Stands as clnp_systems
 use Rattle.link_board.specs.Ports.{PortState}
 use Rattle.live_model.specs.Node.{Node, Outcome, Played, Goes, Ends, Strays, and_then, behind, come_all, comes}
 use Rattle.live_model.proofs.Parts.{behind_nothing, then_then}
@@ -45,5 +45,5 @@ come_next inputs first rest node outcomes e = ap (λ (is : List Input). come_all
 
 -- the code's node has the configuration of the model's
 pub configured : (live : LiveNode) (ports : List PortState) (node : Node) → Stands live ports node
-    → systems.configuration_of live.system ≡ node.system.configuration
+    → clnp_systems.configuration_of live.system ≡ node.system.configuration
 configured live ports node h = h.system.parts.local.configuration

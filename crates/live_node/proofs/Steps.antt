@@ -13,7 +13,7 @@ use Rattle.clnp_machine.specs.ClnpPlan.declared.config.Role.{Role}
 use Rattle.clnp_machine.specs.ClnpPlan.declared.note.Note.{Note as Told}
 use Rattle.clnp_machine.specs.ClnpPlan.declared.output.Output.{Output}
 use Rattle.clnp_machine.specs.ClnpPlan.declared.output.Output.TheVariants.{Transmit, Note}
-use Rattle.clnp_machine.specs.ClnpPlan.declared.output.Sending as output
+use Rattle.clnp_machine.specs.ClnpPlan.declared.output.Sending as plan_sending
 use Rattle.clnp_machine.specs.Content.{Content}
 use Rattle.clnp_machine.specs.Given.{frame_in}
 use Rattle.clnp_machine.specs.Step.{step}
@@ -22,7 +22,7 @@ use Rattle.clnp_machine.specs.Nsap.declared.target.Target.{Target}
 use Rattle.clnp_machine.specs.Unit.{wire}
 use Rattle.clnp_machine.specs.System as machine
 use Rattle.clnp_machine.specs.System.{number_behind}
-use Rattle.clnp_systems.specs.Stands as systems
+use Rattle.clnp_systems.specs.Stands as clnp_systems
 use Rattle.clnp_systems.specs.SystemEntity.Steps.{TakesStep, input_with, moment_at}
 use Rattle.clnp_systems.specs.SystemEntity.declared.input.Input.{Input}
 use Rattle.clnp_systems.specs.declared.system.System.{System}
@@ -201,11 +201,11 @@ module _ (board after : List PortState) (port : ℕ) (on : is_attached_at port b
 -- ---- the lines of the code are those of the model
 
 pub name_of : (live : LiveNode) (board : List PortState) (model : Node) (name : List ℕ) → Stands live board model
-    → name ≡ (systems.configuration_of live.system).name → name ≡ model.system.configuration.name
+    → name ≡ (clnp_systems.configuration_of live.system).name → name ≡ model.system.configuration.name
 name_of live board model name h e = e ∙ ap (λ (s : SystemConfiguration). s.name) h.system.parts.local.configuration
 
 loss_is : (live : LiveNode) (board : List PortState) (model : Node) (name : List ℕ) (port : ℕ) → Stands live board model
-    → name ≡ (systems.configuration_of live.system).name → LinkGone live.now name port ≡ loss model port
+    → name ≡ (clnp_systems.configuration_of live.system).name → LinkGone live.now name port ≡ loss model port
 loss_is live board model name port h e = rw (h.now, name_of live board model name h e) refl
 
 -- ---- a frame goes out
@@ -223,7 +223,7 @@ one_line true node line = refl
 one_line false node line = refl
 
 module _ (live : LiveNode) (board after : List PortState) (model : Node) (stands : Stands live board model) (sending : Sending) (name own : List ℕ) (copies : ℕ)
-    (named : name ≡ (systems.configuration_of live.system).name) (owned : own ≡ (systems.configuration_of live.system).name)
+    (named : name ≡ (clnp_systems.configuration_of live.system).name) (owned : own ≡ (clnp_systems.configuration_of live.system).name)
     (number : copies ≡ number_behind live.copies) (old mid new : Option (List ℕ)) where
   count_is : copies ≡ number_behind model.copies
   count_is = number ∙ ap number_behind stands.copies
@@ -331,16 +331,16 @@ module _ (live : LiveNode) (board after : List PortState) (model : Node) (stands
 -- ---- an output goes out
 
 -- the frame that goes out for an output of the code
-abbrev pub sending_of : output.Sending → Sending
+abbrev pub sending_of : plan_sending.Sending → Sending
 sending_of sending = record { port = sending.port; frame = record { target = sending.to; octets = frame_in sending } }
 
 -- a frame that goes out is that of the model
-same_sending : (sending : output.Sending) (port : ℕ) (target : Target) (octets : List ℕ) → GoesOut sending port target octets
+same_sending : (sending : plan_sending.Sending) (port : ℕ) (target : Target) (octets : List ℕ) → GoesOut sending port target octets
     → sending_of sending ≡ record { port = port; frame = record { target = target; octets = octets } }
 same_sending sending port target octets h = rw (h.port_is, h.target_is, h.octets_are) refl
 
 -- what holds of a frame that goes out holds of its output
-pub puts_frame : (P : (List Outcome → Played) → Type 0) (sending : output.Sending) (other : machine.Output) (model : Node) → PutsOut (Transmit sending) other
+pub puts_frame : (P : (List Outcome → Played) → Type 0) (sending : plan_sending.Sending) (other : machine.Output) (model : Node) → PutsOut (Transmit sending) other
     → P (transmits model (sending_of sending)) → P (puts_out model other)
 puts_frame P sending (machine.Notes told) model h p = absurd h
 puts_frame P sending (machine.Transmits port target packet) model h p =
@@ -349,7 +349,7 @@ puts_frame P sending (machine.SendsEsis port target value) model h p =
     subst (λ (s : Sending). P (transmits model s)) (same_sending sending port target (spelling value) h) p
 
 module _ (live : LiveNode) (board : List PortState) (model : Node) (stands : Stands live board model) (name : List ℕ)
-    (named : name ≡ (systems.configuration_of live.system).name) (old new : Option (List ℕ)) where
+    (named : name ≡ (clnp_systems.configuration_of live.system).name) (old new : Option (List ℕ)) where
   note_is : (note : Told) → Says (Noted live.now name note) ≡ Says (Noted model.system.moment model.system.configuration.name note)
   note_is note = rw (stands.now, name_of live board model name stands named) refl
 
@@ -429,7 +429,7 @@ module _ (live : LiveNode) (board : List PortState) (model : Node) (port : ℕ) 
     failed_look : (later : List Outcome) → looks_at model port (LookFailed port ∷ later) ≡ Goes (detached model port) later ([] ++ loss model port ∷ [])
     failed_look later = rw (link_of live board model port stands, on, same port) refl
 
-    pub looks_broken : (old new : Option (List ℕ)) (name : List ℕ) → name ≡ (systems.configuration_of live.system).name
+    pub looks_broken : (old new : Option (List ℕ)) (name : List ℕ) → name ≡ (clnp_systems.configuration_of live.system).name
         → ChangesPort port board after Detaches → Appends old new (node_line_text (LinkGone live.now name port)) → Plays (looks_at model port) model live board after old new
     looks_broken old new name named change written =
         record {
@@ -453,7 +453,7 @@ module _ (live : LiveNode) (board : List PortState) (model : Node) (port : ℕ) 
         }
 
     -- and its line is broken off
-    pub looks_lost : (old new : Option (List ℕ)) (name : List ℕ) → name ≡ (systems.configuration_of live.system).name
+    pub looks_lost : (old new : Option (List ℕ)) (name : List ℕ) → name ≡ (clnp_systems.configuration_of live.system).name
         → ChangesPort port board after Detaches → AppendsFront old new (node_line_text (LinkGone live.now name port)) → Breaks (looks_at model port) model board after old new
     looks_lost old new name named change written =
         breaks_last (looks_at model port) model (detached model port) board after old old new (LookFailed port ∷ []) [] [] (loss model port)
@@ -515,7 +515,7 @@ polls_stands live board model polled h e =
 
 -- the system took a step
 pub step_stands : (live : LiveNode) (system : System) (now : ℕ) (board : List PortState) (model : Node) (role : Role) (input : machine.Input) (before after : List Output)
-    → Stands live board model → TakesStep role input (systems.entity_of live.system) (systems.entity_of system) before after
+    → Stands live board model → TakesStep role input (clnp_systems.entity_of live.system) (clnp_systems.entity_of system) before after
     → now ≡ moment_at input live.now
     → Stands (record live { system = system; now = now }) board (record model { system = (step model.system input).after })
 step_stands live system now board model role input before after h took e =
@@ -530,8 +530,8 @@ step_stands live system now board model role input before after h took e =
 
 -- and gave out what goes out
 pub step_gave : (live : LiveNode) (system : System) (model : Node) (role : Role) (content : Content) (input : Input) (before after : List Output)
-    → systems.Stands live.system model.system → before ≡ []
-    → TakesStep role (input_with content input) (systems.entity_of live.system) (systems.entity_of system) before after
+    → clnp_systems.Stands live.system model.system → before ≡ []
+    → TakesStep role (input_with content input) (clnp_systems.entity_of live.system) (clnp_systems.entity_of system) before after
     → PutAllOut after (step model.system (input_with content input)).outputs
 step_gave live system model role content input before after h none took =
     gave_out input role content (moment_at (input_with content input) model.system.moment) before after (step model.system (input_with content input)).outputs none

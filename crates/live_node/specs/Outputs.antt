@@ -1,10 +1,10 @@
 -- The outputs of a system of the code, as a live node puts them out, and those of the model.
 use Rattle.std.specs.Prelude.{◌≡◌, ℕ, List, [], ◌∷◌}
-use Rattle.clnp_systems.specs.Stands as systems
+use Rattle.clnp_systems.specs.Stands as clnp_systems
 use Rattle.live_model.specs.Node.{Node}
 use Rattle.clnp_machine.specs.ClnpPlan.declared.output.Output.{Output}
 use Rattle.clnp_machine.specs.ClnpPlan.declared.output.Output.TheVariants.{Transmit, Note}
-use Rattle.clnp_machine.specs.ClnpPlan.declared.output.Sending as plan
+use Rattle.clnp_machine.specs.ClnpPlan.declared.output.Sending as plan_sending
 use Rattle.clnp_machine.specs.EsisPdus.Spelling.{spelling}
 use Rattle.clnp_machine.specs.Given.{frame_in}
 use Rattle.clnp_machine.specs.Nsap.declared.target.Target.{Target}
@@ -12,7 +12,7 @@ use Rattle.clnp_machine.specs.System as machine
 use Rattle.clnp_machine.specs.Unit.{wire}
 
 -- a frame goes out on a port with these octets
-pub record GoesOut (sending : plan.Sending) (port : ℕ) (target : Target) (octets : List ℕ) : Type 0 where
+pub record GoesOut (sending : plan_sending.Sending) (port : ℕ) (target : Target) (octets : List ℕ) : Type 0 where
   pub port_is : sending.port ≡ port
   pub target_is : sending.to ≡ target
   pub octets_are : frame_in sending ≡ octets

@@ -3,7 +3,7 @@
 use Rattle.std.specs.Prelude.{◌≡◌, ℕ, Bool, List, [], ◌∷◌, ◌++◌, map, Option}
 use Rattle.std.specs.Io.KnownBytes.{Appends}
 use Rattle.link_board.specs.Ports.{PortState}
-use Rattle.clnp_systems.specs.Stands as systems
+use Rattle.clnp_systems.specs.Stands as clnp_systems
 use Rattle.live_model.specs.Lines.{NodeLine, lines_text}
 use Rattle.live_model.specs.Node.{Node, Outcome, Played, Goes, Ends, Strays, Sending, behind}
 use Rattle.live_model.specs.Parts.{UsesAll}
@@ -16,7 +16,7 @@ attached_of ports = map (λ (port : PortState). port.attached) ports
 
 -- the code's node over these ports is one of the model
 pub record Stands (live : LiveNode) (ports : List PortState) (node : Node) : Type 0 where
-  pub system : systems.Stands live.system node.system
+  pub system : clnp_systems.Stands live.system node.system
   pub now : live.now ≡ node.system.moment
   pub copies : live.copies ≡ node.copies
   pub polled : live.polled ≡ node.polled

@@ -76,7 +76,8 @@ pub record IsBrokenOff (most : ℕ) (run : Course) (turns : List Turn) (old new 
   pub written : AppendsFront old new (journal run)
 
 -- What a run comes to, by its answer.
-abbrev pub EndsAs : Result (Unit {0}) RunStop → (most : ℕ) → Course → List Turn → (after : List PortState) → (old new : Option (List ℕ)) → Type 0
+abbrev pub EndsAs : Result (Unit {0}) RunStop → (most : ℕ) → Course → List Turn → (after : List PortState)
+    → (old new : Option (List ℕ)) → Type 0
 EndsAs (Ok _) most run turns after old new = RunsAll most run turns old new
 EndsAs (Err (LinksGone links)) most run turns after old new = EndsWithoutLinks most links run turns after old new
 EndsAs (Err WriteFault) most run turns after old new = IsBrokenOff most run turns old new

@@ -1,7 +1,7 @@
 //! Looks at ports.
 ghost use Rattle.std.specs.Prelude.{◌≡◌, ◌≤◌, ◌<◌, OnOk, OnErr, Err, Some, length};
 ghost use Rattle.clnp_machine.specs.ClnpBase.Streams.{Rose};
-ghost use Rattle.clnp_systems.specs.Stands as systems;
+ghost use Rattle.clnp_systems.specs.Stands as clnp_systems;
 ghost use Rattle.live_model.specs.Node as model;
 ghost use Rattle.live_node.specs.Plays.{Breaks, Plays, Stands};
 
@@ -32,8 +32,8 @@ impl LiveNode {
         ensures breaks { OnErr result ((node : model.Node) → Stands self.old (B.ports board.old) node
             → Breaks (model.looks_at_each node (model.ports_of node.attached)) node (B.ports board.old) (B.ports board.new)
             (K.written sink.old) (K.written sink.new)) }
-        ensures moment { OnOk result ((systems.entity_of self.new.system).moment ≡ (systems.entity_of self.old.system).moment) }
-        ensures config { systems.configuration_of self.new.system ≡ systems.configuration_of self.old.system }
+        ensures moment { OnOk result ((clnp_systems.entity_of self.new.system).moment ≡ (clnp_systems.entity_of self.old.system).moment) }
+        ensures config { clnp_systems.configuration_of self.new.system ≡ clnp_systems.configuration_of self.old.system }
         ensures ports { length (B.ports board.new) ≡ length (B.ports board.old) }
         ensures room { length buf.new ≡ length buf.old }
         ensures later { K.faults sink.old ≤ K.faults sink.new }
@@ -62,8 +62,8 @@ impl LiveNode {
         ensures breaks { OnErr result ((node : model.Node) → Stands self.old (B.ports board.old) node
             → Breaks (model.looks_at node port) node (B.ports board.old) (B.ports board.new)
             (K.written sink.old) (K.written sink.new)) }
-        ensures moment { OnOk result ((systems.entity_of self.new.system).moment ≡ (systems.entity_of self.old.system).moment) }
-        ensures config { systems.configuration_of self.new.system ≡ systems.configuration_of self.old.system }
+        ensures moment { OnOk result ((clnp_systems.entity_of self.new.system).moment ≡ (clnp_systems.entity_of self.old.system).moment) }
+        ensures config { clnp_systems.configuration_of self.new.system ≡ clnp_systems.configuration_of self.old.system }
         ensures ports { length (B.ports board.new) ≡ length (B.ports board.old) }
         ensures room { length buf.new ≡ length buf.old }
         ensures later { K.faults sink.old ≤ K.faults sink.new }
@@ -114,8 +114,8 @@ impl LiveNode {
         ensures breaks { OnErr result ((node : model.Node) → Stands self.old (B.ports board.old) node
             → Breaks (model.sees node port (Some (record { from = from; to_group = group; octets = octets.now })))
             node (B.ports board.old) (B.ports board.new) (K.written sink.old) (K.written sink.new)) }
-        ensures moment { OnOk result ((systems.entity_of self.new.system).moment ≡ (systems.entity_of self.old.system).moment) }
-        ensures config { systems.configuration_of self.new.system ≡ systems.configuration_of self.old.system }
+        ensures moment { OnOk result ((clnp_systems.entity_of self.new.system).moment ≡ (clnp_systems.entity_of self.old.system).moment) }
+        ensures config { clnp_systems.configuration_of self.new.system ≡ clnp_systems.configuration_of self.old.system }
         ensures ports { length (B.ports board.new) ≡ length (B.ports board.old) }
         ensures later { K.faults sink.old ≤ K.faults sink.new }
         ensures failed { result ≡ Err Stop.WriteFault → Rose (K.faults sink.old) (K.faults sink.new) }

@@ -2,7 +2,7 @@
 ghost use Rattle.std.specs.Prelude.{◌≡◌, ◌≤◌, ◌<◌, ◌^◌, ◌+◌, IfOk, OnOk, OnErr, Err, length};
 ghost use Rattle.clnp_machine.specs.Content.{Content};
 ghost use Rattle.clnp_machine.specs.System.{first_state};
-ghost use Rattle.clnp_systems.specs.Stands as systems;
+ghost use Rattle.clnp_systems.specs.Stands as clnp_systems;
 ghost use Rattle.clnp_systems.specs.SystemEntity.Steps.{Carries, MayCome, input_with, moment_at};
 ghost use Rattle.clnp_machine.specs.ClnpBase.Streams.{Rose};
 ghost use Rattle.live_model.specs.Node as model;
@@ -46,9 +46,9 @@ impl LiveNode {
         requires hold { 1 ≤ limits.now.hold }
         requires reuse { limits.now.reuse ≤ 16384 }
         requires start { start < 2 ^ 62 }
-        ensures system { IfOk result (λ live. systems.Stands live.system
+        ensures system { IfOk result (λ live. clnp_systems.Stands live.system
             (first_state 0 config.now limits.now start (start + limits.now.reuse))) }
-        ensures moment { IfOk result (λ live. (systems.entity_of live.system).moment ≡ start) }
+        ensures moment { IfOk result (λ live. (clnp_systems.entity_of live.system).moment ≡ start) }
         ensures now { IfOk result (λ live. live.now ≡ start) }
         ensures copies { IfOk result (λ live. live.copies ≡ 0) }
         ensures polled { IfOk result (λ live. live.polled ≡ 0) }
@@ -71,17 +71,17 @@ impl LiveNode {
         board: &mut B,
         sink: &mut K,
     ) -> Result<(), Stop>
-        requires { MayCome (systems.entity_of self.old.system).moment input.now }
+        requires { MayCome (clnp_systems.entity_of self.old.system).moment input.now }
         ensures plays { OnOk result ((node : model.Node) (content : Content) → Stands self.old (B.ports board.old) node → Carries input.now content
             → Plays (model.comes node (input_with content input.now)) node self.new (B.ports board.old) (B.ports board.new)
             (K.written sink.old) (K.written sink.new)) }
         ensures breaks { OnErr result ((node : model.Node) (content : Content) → Stands self.old (B.ports board.old) node → Carries input.now content
             → Breaks (model.comes node (input_with content input.now)) node (B.ports board.old) (B.ports board.new)
             (K.written sink.old) (K.written sink.new)) }
-        ensures moment { OnOk result ((content : Content) → Carries input.now content → (systems.entity_of self.new.system).moment
-            ≡ moment_at (input_with content input.now) (systems.entity_of self.old.system).moment) }
+        ensures moment { OnOk result ((content : Content) → Carries input.now content → (clnp_systems.entity_of self.new.system).moment
+            ≡ moment_at (input_with content input.now) (clnp_systems.entity_of self.old.system).moment) }
         ensures config { (content : Content) → Carries input.now content
-            → systems.configuration_of self.new.system ≡ systems.configuration_of self.old.system }
+            → clnp_systems.configuration_of self.new.system ≡ clnp_systems.configuration_of self.old.system }
         ensures ports { length (B.ports board.new) ≡ length (B.ports board.old) }
         ensures later { K.faults sink.old ≤ K.faults sink.new }
         ensures failed { result ≡ Err Stop.WriteFault → Rose (K.faults sink.old) (K.faults sink.new) }

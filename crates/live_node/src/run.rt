@@ -5,7 +5,7 @@ ghost use Rattle.clnp_machine.specs.ClnpBase.Streams.{AppendsFront, Rose};
 ghost use Rattle.clnp_machine.specs.ClnpPlan.Configuration.{SystemConfiguration};
 ghost use Rattle.clnp_machine.specs.ClnpPlan.Journal.{end_text};
 ghost use Rattle.clnp_machine.specs.ClnpBase.Moments.{GivesMoment};
-ghost use Rattle.clnp_systems.specs.Stands as systems;
+ghost use Rattle.clnp_systems.specs.Stands as clnp_systems;
 ghost use Rattle.link_board.specs.Ports.{PortState};
 ghost use Rattle.live_model.specs.Course.{first_node};
 ghost use Rattle.live_model.specs.Node as model;
@@ -88,7 +88,7 @@ fn run_opened<K: Sink, C: Clock, B: Ports>(
     room: &mut [u8],
     sink: &mut K,
 ) -> Result<(), RunStop>
-    requires moment { (systems.entity_of live.old.system).moment ≤ C.last clock.old }
+    requires moment { (clnp_systems.entity_of live.old.system).moment ≤ C.last clock.old }
     requires board { IsForBoard (length (B.ports board.old)) scenario.now }
     requires room { 70000 ≤ length room.old }
     ensures ran { (system : SystemConfiguration) (first : Option (List ℕ)) → scenario.now.systems ≡ system ∷ []
@@ -112,7 +112,7 @@ fn open(alloc: Global, scenario: &Scenario, start: u64) -> Result<(LiveNode, Vec
     requires early { start < 2 ^ 62 }
     ensures stands { IfOk result (λ opened. (system : SystemConfiguration) (ports : List PortState) → scenario.now.systems ≡ system ∷ []
         → Stands opened.0 ports (first_node scenario.now.limits system start (attached_of ports))) }
-    ensures moment { IfOk result (λ opened. (systems.entity_of opened.0.system).moment ≡ start) }
+    ensures moment { IfOk result (λ opened. (clnp_systems.entity_of opened.0.system).moment ≡ start) }
     ensures room { IfOk result (λ opened. length opened.1.items ≡ 70000) }
 {
     // Its clause: the limits are within their ranges, as a system asks at its start.
@@ -134,7 +134,7 @@ fn run_turns<K: Sink, C: Clock, B: Ports>(
     room: &mut [u8],
     sink: &mut K,
 ) -> Result<(), RunStop>
-    requires moment { (systems.entity_of live.old.system).moment ≤ C.last clock.old }
+    requires moment { (clnp_systems.entity_of live.old.system).moment ≤ C.last clock.old }
     requires board { IsForBoard (length (B.ports board.old)) scenario.now }
     requires room { 70000 ≤ length room.old }
     ensures ran { OnOk result ((node : model.Node) → Stands live.old (B.ports board.old) node
@@ -179,7 +179,7 @@ fn run_turn<K: Sink, C: Clock, B: Ports>(
     room: &mut [u8],
     sink: &mut K,
 ) -> Result<(), RunStop>
-    requires moment { (systems.entity_of live.old.system).moment ≤ C.last clock.old }
+    requires moment { (clnp_systems.entity_of live.old.system).moment ≤ C.last clock.old }
     requires room { 70000 ≤ length room.old }
     requires counted { ports ≡ length (B.ports board.old) }
     ensures ran { OnOk result ((node : model.Node) → Stands live.old (B.ports board.old) node
@@ -189,7 +189,7 @@ fn run_turn<K: Sink, C: Clock, B: Ports>(
     ensures stops { IfErr result (λ stop. (node : model.Node) → Stands live.old (B.ports board.old) node
         → StopsIn stop 1 (dues_of agenda.old scenario.now.events) node (C.moments clock.old) (C.moments clock.new)
         (B.ports board.old) (B.ports board.new) (K.written sink.old) (K.written sink.new)) }
-    ensures moment { OnOk result ((systems.entity_of live.new.system).moment ≤ C.last clock.new) }
+    ensures moment { OnOk result ((clnp_systems.entity_of live.new.system).moment ≤ C.last clock.new) }
     ensures ports { length (B.ports board.new) ≡ length (B.ports board.old) }
     ensures room { length room.new ≡ length room.old }
     ensures faults { K.faults sink.old ≤ K.faults sink.new }

@@ -4,7 +4,7 @@ ghost use Rattle.clnp_machine.specs.ClnpBase.Streams.{Rose};
 ghost use Rattle.clnp_machine.specs.ClnpOptions.Grammar.{FitsKind};
 ghost use Rattle.clnp_machine.specs.ClnpOptions.Parameter.{parameters};
 ghost use Rattle.clnp_machine.specs.System.{AsksForEcho, AsksToSend};
-ghost use Rattle.clnp_systems.specs.Stands as systems;
+ghost use Rattle.clnp_systems.specs.Stands as clnp_systems;
 ghost use Rattle.scenario.specs.Scenario.{AsksFairly, octets_of};
 ghost use Rattle.live_model.specs.Node as model;
 ghost use Rattle.live_model.specs.Turn.{asked_by, comes_at, due_behind, of_host, takes_turn};
@@ -39,7 +39,7 @@ impl LiveNode {
         buf: &mut [u8],
         sink: &mut K,
     ) -> Result<(), Stop>
-        requires moment { (systems.entity_of self.old.system).moment ≤ now }
+        requires moment { (clnp_systems.entity_of self.old.system).moment ≤ now }
         requires early { now < 2 ^ 62 }
         requires room { 70000 ≤ length buf.old }
         requires counted { ports ≡ length (B.ports board.old) }
@@ -50,7 +50,7 @@ impl LiveNode {
             → Breaks (takes_turn (comes_at now node.system.configuration.role (dues_of agenda.old scenario.now.events)) node) node
             (B.ports board.old) (B.ports board.new) (K.written sink.old) (K.written sink.new)) }
         ensures behind { OnOk result (dues_of agenda.new scenario.now.events ≡ due_behind now (dues_of agenda.old scenario.now.events)) }
-        ensures moment { OnOk result ((systems.entity_of self.new.system).moment ≡ now) }
+        ensures moment { OnOk result ((clnp_systems.entity_of self.new.system).moment ≡ now) }
         ensures ports { length (B.ports board.new) ≡ length (B.ports board.old) }
         ensures room { length buf.new ≡ length buf.old }
         ensures later { K.faults sink.old ≤ K.faults sink.new }
@@ -70,16 +70,16 @@ impl LiveNode {
         board: &mut B,
         sink: &mut K,
     ) -> Result<(), Stop>
-        requires moment { (systems.entity_of self.old.system).moment ≤ now }
+        requires moment { (clnp_systems.entity_of self.old.system).moment ≤ now }
         requires early { now < 2 ^ 62 }
         ensures plays { OnOk result ((node : model.Node) → Stands self.old (B.ports board.old) node
-            → Plays (model.come_all node (comes_at now (systems.configuration_of self.old.system).role (dues_of agenda.old scenario.now.events))) node self.new
+            → Plays (model.come_all node (comes_at now (clnp_systems.configuration_of self.old.system).role (dues_of agenda.old scenario.now.events))) node self.new
             (B.ports board.old) (B.ports board.new) (K.written sink.old) (K.written sink.new)) }
         ensures breaks { OnErr result ((node : model.Node) → Stands self.old (B.ports board.old) node
-            → Breaks (model.come_all node (comes_at now (systems.configuration_of self.old.system).role (dues_of agenda.old scenario.now.events))) node
+            → Breaks (model.come_all node (comes_at now (clnp_systems.configuration_of self.old.system).role (dues_of agenda.old scenario.now.events))) node
             (B.ports board.old) (B.ports board.new) (K.written sink.old) (K.written sink.new)) }
         ensures behind { OnOk result (dues_of agenda.new scenario.now.events ≡ due_behind now (dues_of agenda.old scenario.now.events)) }
-        ensures moment { OnOk result ((systems.entity_of self.new.system).moment ≡ now) }
+        ensures moment { OnOk result ((clnp_systems.entity_of self.new.system).moment ≡ now) }
         ensures ports { length (B.ports board.new) ≡ length (B.ports board.old) }
         ensures later { K.faults sink.old ≤ K.faults sink.new }
         ensures failed { result ≡ Err Stop.WriteFault → Rose (K.faults sink.old) (K.faults sink.new) }
@@ -102,14 +102,14 @@ impl LiveNode {
     ) -> Result<(), Stop>
         requires early { now < 2 ^ 62 }
         ensures plays { OnOk result ((node : model.Node) → Stands self.old (B.ports board.old) node
-            → Plays (model.come_all node (asks_by now (systems.configuration_of self.old.system).role (dues_of agenda.old scenario.now.events))) node self.new
+            → Plays (model.come_all node (asks_by now (clnp_systems.configuration_of self.old.system).role (dues_of agenda.old scenario.now.events))) node self.new
             (B.ports board.old) (B.ports board.new) (K.written sink.old) (K.written sink.new)) }
         ensures breaks { OnErr result ((node : model.Node) → Stands self.old (B.ports board.old) node
-            → Breaks (model.come_all node (asks_by now (systems.configuration_of self.old.system).role (dues_of agenda.old scenario.now.events))) node
+            → Breaks (model.come_all node (asks_by now (clnp_systems.configuration_of self.old.system).role (dues_of agenda.old scenario.now.events))) node
             (B.ports board.old) (B.ports board.new) (K.written sink.old) (K.written sink.new)) }
         ensures behind { OnOk result (dues_of agenda.new scenario.now.events ≡ due_behind now (dues_of agenda.old scenario.now.events)) }
-        ensures moment { OnOk result ((systems.entity_of self.new.system).moment ≡ (systems.entity_of self.old.system).moment) }
-        ensures config { systems.configuration_of self.new.system ≡ systems.configuration_of self.old.system }
+        ensures moment { OnOk result ((clnp_systems.entity_of self.new.system).moment ≡ (clnp_systems.entity_of self.old.system).moment) }
+        ensures config { clnp_systems.configuration_of self.new.system ≡ clnp_systems.configuration_of self.old.system }
         ensures ports { length (B.ports board.new) ≡ length (B.ports board.old) }
         ensures later { K.faults sink.old ≤ K.faults sink.new }
         ensures failed { result ≡ Err Stop.WriteFault → Rose (K.faults sink.old) (K.faults sink.new) }
@@ -138,13 +138,13 @@ impl LiveNode {
     ) -> Result<(), Stop>
         requires { AsksFairly event.now }
         ensures plays { OnOk result ((node : model.Node) → Stands self.old (B.ports board.old) node
-            → Plays (model.come_all node (asked_by (systems.configuration_of self.old.system).role event.now)) node self.new
+            → Plays (model.come_all node (asked_by (clnp_systems.configuration_of self.old.system).role event.now)) node self.new
             (B.ports board.old) (B.ports board.new) (K.written sink.old) (K.written sink.new)) }
         ensures breaks { OnErr result ((node : model.Node) → Stands self.old (B.ports board.old) node
-            → Breaks (model.come_all node (asked_by (systems.configuration_of self.old.system).role event.now)) node
+            → Breaks (model.come_all node (asked_by (clnp_systems.configuration_of self.old.system).role event.now)) node
             (B.ports board.old) (B.ports board.new) (K.written sink.old) (K.written sink.new)) }
-        ensures moment { OnOk result ((systems.entity_of self.new.system).moment ≡ (systems.entity_of self.old.system).moment) }
-        ensures config { systems.configuration_of self.new.system ≡ systems.configuration_of self.old.system }
+        ensures moment { OnOk result ((clnp_systems.entity_of self.new.system).moment ≡ (clnp_systems.entity_of self.old.system).moment) }
+        ensures config { clnp_systems.configuration_of self.new.system ≡ clnp_systems.configuration_of self.old.system }
         ensures ports { length (B.ports board.new) ≡ length (B.ports board.old) }
         ensures later { K.faults sink.old ≤ K.faults sink.new }
         ensures failed { result ≡ Err Stop.WriteFault → Rose (K.faults sink.old) (K.faults sink.new) }
@@ -191,13 +191,13 @@ impl LiveNode {
     ) -> Result<(), Stop>
         requires { FitsKind false (parameters ask.now.options) }
         ensures plays { OnOk result ((node : model.Node) → Stands self.old (B.ports board.old) node
-            → Plays (model.come_all node (of_host (systems.configuration_of self.old.system).role (AsksToSend from to (octets_of body.now) ask.now))) node self.new
+            → Plays (model.come_all node (of_host (clnp_systems.configuration_of self.old.system).role (AsksToSend from to (octets_of body.now) ask.now))) node self.new
             (B.ports board.old) (B.ports board.new) (K.written sink.old) (K.written sink.new)) }
         ensures breaks { OnErr result ((node : model.Node) → Stands self.old (B.ports board.old) node
-            → Breaks (model.come_all node (of_host (systems.configuration_of self.old.system).role (AsksToSend from to (octets_of body.now) ask.now))) node
+            → Breaks (model.come_all node (of_host (clnp_systems.configuration_of self.old.system).role (AsksToSend from to (octets_of body.now) ask.now))) node
             (B.ports board.old) (B.ports board.new) (K.written sink.old) (K.written sink.new)) }
-        ensures moment { OnOk result ((systems.entity_of self.new.system).moment ≡ (systems.entity_of self.old.system).moment) }
-        ensures config { systems.configuration_of self.new.system ≡ systems.configuration_of self.old.system }
+        ensures moment { OnOk result ((clnp_systems.entity_of self.new.system).moment ≡ (clnp_systems.entity_of self.old.system).moment) }
+        ensures config { clnp_systems.configuration_of self.new.system ≡ clnp_systems.configuration_of self.old.system }
         ensures ports { length (B.ports board.new) ≡ length (B.ports board.old) }
         ensures later { K.faults sink.old ≤ K.faults sink.new }
         ensures failed { result ≡ Err Stop.WriteFault → Rose (K.faults sink.old) (K.faults sink.new) }
@@ -226,8 +226,8 @@ impl LiveNode {
         ensures breaks { OnErr result ((node : model.Node) → Stands self.old (B.ports board.old) node
             → Breaks (model.come_all node (AsksToSend from to (octets_of body.now) ask.now ∷ [])) node
             (B.ports board.old) (B.ports board.new) (K.written sink.old) (K.written sink.new)) }
-        ensures moment { OnOk result ((systems.entity_of self.new.system).moment ≡ (systems.entity_of self.old.system).moment) }
-        ensures config { systems.configuration_of self.new.system ≡ systems.configuration_of self.old.system }
+        ensures moment { OnOk result ((clnp_systems.entity_of self.new.system).moment ≡ (clnp_systems.entity_of self.old.system).moment) }
+        ensures config { clnp_systems.configuration_of self.new.system ≡ clnp_systems.configuration_of self.old.system }
         ensures ports { length (B.ports board.new) ≡ length (B.ports board.old) }
         ensures later { K.faults sink.old ≤ K.faults sink.new }
         ensures failed { result ≡ Err Stop.WriteFault → Rose (K.faults sink.old) (K.faults sink.new) }
@@ -261,8 +261,8 @@ impl LiveNode {
         ensures breaks { OnErr result ((node : model.Node) → Stands self.old (B.ports board.old) node
             → Breaks (model.come_all node (AsksForEcho from to (octets_of body.now) ∷ [])) node
             (B.ports board.old) (B.ports board.new) (K.written sink.old) (K.written sink.new)) }
-        ensures moment { OnOk result ((systems.entity_of self.new.system).moment ≡ (systems.entity_of self.old.system).moment) }
-        ensures config { systems.configuration_of self.new.system ≡ systems.configuration_of self.old.system }
+        ensures moment { OnOk result ((clnp_systems.entity_of self.new.system).moment ≡ (clnp_systems.entity_of self.old.system).moment) }
+        ensures config { clnp_systems.configuration_of self.new.system ≡ clnp_systems.configuration_of self.old.system }
         ensures ports { length (B.ports board.new) ≡ length (B.ports board.old) }
         ensures later { K.faults sink.old ≤ K.faults sink.new }
         ensures failed { result ≡ Err Stop.WriteFault → Rose (K.faults sink.old) (K.faults sink.new) }

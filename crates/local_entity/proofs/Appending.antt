@@ -1,19 +1,19 @@
 -- Actions of the model that were appended, one after another.
 use Rattle.std.proofs.Common.{◌≡◌, ◌∙◌, ap, List, [], ◌∷◌, ◌++◌, append_assoc}
 use Rattle.clnp_machine.specs.ClnpPlan.declared.note.Note.{Note}
-use Rattle.clnp_machine.specs.Local as machine
+use Rattle.clnp_machine.specs.Local as locally
 use Rattle.clnp_machine.specs.Local.{Tells}
 use Rattle.local_entity.specs.declared.action.Action.{Action}
 use Rattle.local_entity.specs.declared.action.Action.TheVariants.{Note as Noted}
 use Rattle.local_entity.specs.Local.{Appends, DoAll}
 
-pub do_all-append : (actions more : List Action) (others rest : List machine.Action) → DoAll actions others → DoAll more rest → DoAll (actions ++ more) (others ++ rest)
+pub do_all-append : (actions more : List Action) (others rest : List locally.Action) → DoAll actions others → DoAll more rest → DoAll (actions ++ more) (others ++ rest)
 do_all-append [] more [] rest here there = there
 do_all-append [] more (other ∷ others) rest here there = absurd here
 do_all-append (action ∷ actions) more [] rest here there = absurd here
 do_all-append (action ∷ actions) more (other ∷ others) rest here there = (here.0, do_all-append actions more others rest here.1 there)
 
-pub appends-more : (old mid new : List Action) (others rest : List machine.Action) → Appends old mid others → Appends mid new rest → Appends old new (others ++ rest)
+pub appends-more : (old mid new : List Action) (others rest : List locally.Action) → Appends old mid others → Appends mid new rest → Appends old new (others ++ rest)
 appends-more old mid new others rest here there = record {
   actions = here.actions ++ there.actions;
   appended = there.appended ∙ ap (λ (l : List Action). l ++ there.actions) here.appended ∙ append_assoc old here.actions there.actions;

@@ -3,10 +3,10 @@ use Rattle.std.proofs.Common.{◌≡◌, ◌∙◌, sym, ap, refl, subst, ℕ, f
 use Rattle.std.specs.List.{find}
 use Rattle.clnp_machine.specs.ClnpPlan.declared.ask.Ask.{Ask}
 use Rattle.clnp_machine.specs.ClnpPlan.declared.ask.SendRefusal.{SendRefusal}
-use Rattle.clnp_machine.specs.ClnpPlan.declared.ask.SendRefusal.TheVariants as send
+use Rattle.clnp_machine.specs.ClnpPlan.declared.ask.SendRefusal.TheVariants as send_refusal
 use Rattle.clnp_machine.specs.ClnpPlan.declared.note.Note.{Note}
 use Rattle.clnp_machine.specs.PduHeader.declared.kind.Kind.TheVariants.{Erp}
-use Rattle.clnp_machine.specs.Unit as unit
+use Rattle.clnp_machine.specs.Unit.{DataUnit}
 use Rattle.clnp_machine.specs.System.{SystemState}
 use Rattle.clnp_machine.specs.Local.{echo_ask, is_answer, is_replied, make, refusal, replies, takes_reply, tells, unit_of, unless_refused, without_answered}
 use Rattle.local_entity.specs.declared.pending.Request.{Request}
@@ -15,7 +15,7 @@ use Rattle.local_entity.specs.Local.{AreRequests, IsWhy, Stands, refusal_note}
 use Rattle.local_entity.proofs.Requests.{none_left}
 
 -- an entity with other requests stands for a system with other requests
-stands_pending : (local : EntityState) (noted : List Request) (s : SystemState) (pending : List unit.Unit) → Stands local s → AreRequests noted pending
+stands_pending : (local : EntityState) (noted : List Request) (s : SystemState) (pending : List DataUnit) → Stands local s → AreRequests noted pending
     → Stands (record local { pending = noted }) (record s { pending = pending })
 stands_pending local noted s pending stands are = record {
   configuration = stands.configuration;
@@ -35,28 +35,27 @@ pub stands_replied : (local : EntityState) (noted : List Request) (s : SystemSta
     → Stands (record local { pending = noted }) (is_replied s source destination octets).after
 stands_replied local noted s source destination octets stands are = by (find (is_answer source destination octets) s.pending) refl
   where
-    by : (found : Option unit.Unit) → find (is_answer source destination octets) s.pending ≡ found
+    by : (found : Option DataUnit) → find (is_answer source destination octets) s.pending ≡ found
         → Stands (record local { pending = noted }) (takes_reply s source destination octets found).after
     by None none = stands_pending local noted s s.pending stands (subst (AreRequests noted) (none_left (is_answer source destination octets) s.pending none) are)
     by (Some request) some = stands_pending local noted s (without_answered (is_answer source destination octets) s.pending) stands are
 
 -- what is made is the reply
-pub reply_is : (s : SystemState) (source destination octets shown : List ℕ) (ask : Ask) → shown ≡ octets
-    → ask ≡ echo_ask s destination source (length octets) false → make s Erp destination source shown ask ≡ replies s source destination octets
-reply_is s source destination octets shown ask same asked =
-    ap (λ (l : List ℕ). make s Erp destination source l ask) same ∙ ap (make s Erp destination source octets) asked
+pub reply_is : (s : SystemState) (source destination octets : List ℕ) (ask : Ask) → ask ≡ echo_ask s destination source (length octets) false
+    → make s Erp destination source octets ask ≡ replies s source destination octets
+reply_is s source destination octets ask asked = ap (make s Erp destination source octets) asked
 
 pub says_why : (e : SendRefusal) (note : Note) (answer : Option Note) → refusal_note e ≡ Some note → IsWhy e answer → answer ≡ Some note
-says_why send.NotMine note answer said why = why ∙ said
-says_why (send.TooLong octets) note answer said why = why ∙ said
-says_why (send.IdsBusy used) note answer said why = why ∙ said
-says_why (send.Quiet until) note answer said why = why ∙ said
-says_why send.NoMemory note answer said why = absurd (cc)
+says_why send_refusal.NotMine note answer said why = why ∙ said
+says_why (send_refusal.TooLong octets) note answer said why = why ∙ said
+says_why (send_refusal.IdsBusy used) note answer said why = why ∙ said
+says_why (send_refusal.Quiet until) note answer said why = why ∙ said
+says_why send_refusal.NoMemory note answer said why = absurd (cc)
 
 -- a reply that is refused leaves its note
-pub refused_reply : (s : SystemState) (source destination octets shown : List ℕ) (ask : Ask) (e : SendRefusal) (note : Note) → shown ≡ octets
+pub refused_reply : (s : SystemState) (source destination octets : List ℕ) (ask : Ask) (e : SendRefusal) (note : Note)
     → ask ≡ echo_ask s destination source (length octets) false → refusal_note e ≡ Some note
-    → IsWhy e (refusal s (unit_of s Erp destination source shown ask)) → tells s note ≡ replies s source destination octets
-refused_reply s source destination octets shown ask e note same asked said why =
-    sym (ap (λ (r : Option Note). unless_refused r s (unit_of s Erp destination source shown ask)) (says_why e note _ said why))
-    ∙ reply_is s source destination octets shown ask same asked
+    → IsWhy e (refusal s (unit_of s Erp destination source octets ask)) → tells s note ≡ replies s source destination octets
+refused_reply s source destination octets ask e note asked said why =
+    sym (ap (λ (r : Option Note). unless_refused r s (unit_of s Erp destination source octets ask)) (says_why e note _ said why))
+    ∙ reply_is s source destination octets ask asked

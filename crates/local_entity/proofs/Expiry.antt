@@ -16,7 +16,7 @@ use Rattle.clnp_machine.specs.ClnpPlan.declared.note.Note.TheVariants.{Expired a
 use Rattle.clnp_machine.specs.Unit.{Packet, wire}
 use Rattle.clnp_machine.specs.Content.{Labelled, frame_of}
 use Rattle.clnp_machine.specs.System.{SystemState}
-use Rattle.clnp_machine.specs.Local as machine
+use Rattle.clnp_machine.specs.Local as locally
 use Rattle.clnp_machine.specs.Local.{Deed, Tells, and_then, discard_first, expire, give_up_due, gives_up, makes, report_unit, reports_from, rests}
 use Rattle.local_entity.specs.declared.action.Action.{Action}
 use Rattle.local_entity.specs.State.{EntityState}
@@ -32,7 +32,7 @@ use Rattle.clnp_machine.proofs.ClnpBase.Choices.{none_mapped}
 
 and_then-associates : (deed : Deed) (f g : SystemState → Deed) → and_then deed (λ s. and_then (f s) g) ≡ and_then (and_then deed f) g
 and_then-associates deed f g =
-    ap (λ (actions : List machine.Action). let d : Deed = record { after = (g (f deed.after).after).after; actions = actions } in d)
+    ap (λ (actions : List locally.Action). let d : Deed = record { after = (g (f deed.after).after).after; actions = actions } in d)
     (sym (append_assoc deed.actions (f deed.after).actions (g (f deed.after).after).actions))
 
 -- the next one is the one that is due after so many
@@ -189,7 +189,7 @@ module _ (local : EntityState) (now : ℕ) (s : SystemState) (stands : Stands lo
           ≡ (Tells (Ended other.key.id (buffer.held t.buffers)) ∷ (discard_first t (first_carried other)).actions) ++ []
           = ap (λ (id : ℕ). Tells (Ended id (buffer.held t.buffers)) ∷ (discard_first t (first_carried other)).actions) is.id
           ∙ sym (append-nil (Tells (Ended other.key.id (buffer.held t.buffers)) ∷ (discard_first t (first_carried other)).actions)) in
-          subst (λ (l : List machine.Action). Appends before behind l) same appends)
+          subst (λ (l : List locally.Action). Appends before behind l) same appends)
           (due now stands.buffers) (due s.moment s.buffers) same_due told table_stands
 
   pub none_appends : (before : List Action) → None ≡ option_map told_of (due now stands.buffers) → Appends before before (expire 1 s).actions

@@ -18,11 +18,10 @@ use Rattle.clnp_machine.specs.ClnpOptions.Parameter.{Parameter}
 use Rattle.clnp_machine.specs.PduHeader.declared.kind.Kind.{Kind}
 use Rattle.clnp_machine.specs.PduHeader.declared.kind.Kind.TheVariants.{Dt, Er, Erq, Erp}
 use Rattle.clnp_machine.specs.ClnpPlan.declared.note.Note.{Note}
-use Rattle.clnp_machine.specs.Unit as unit
-use Rattle.clnp_machine.specs.Unit.{Packet, wire}
+use Rattle.clnp_machine.specs.Unit.{DataUnit, Packet, wire}
 use Rattle.clnp_machine.specs.Content.{Content}
 use Rattle.clnp_machine.specs.System.{SystemState, table_limits}
-use Rattle.clnp_machine.specs.Local as machine
+use Rattle.clnp_machine.specs.Local as locally
 use Rattle.clnp_machine.specs.Local.{data_in, echo_ask, hand_up, is_answer, octet_of, offer, refusal, takes_in, takes_reply, unit_of, unless_refused}
 use Rattle.local_entity.specs.declared.action.Action.{Action}
 use Rattle.local_entity.specs.State.{EntityState}
@@ -51,7 +50,7 @@ stands_with local later s stands limits buffers others table_stands shown all = 
 }
 
 -- a deed where the system's buffers are others in the end
-abbrev pub with_buffers : List (Buffer Packet) → machine.Deed → machine.Deed
+abbrev pub with_buffers : List (Buffer Packet) → locally.Deed → locally.Deed
 with_buffers buffers deed = record { after = record deed.after { buffers = buffers }; actions = deed.actions }
 
 -- what is handed up changes no buffer, and depends on none
@@ -68,7 +67,7 @@ hand_up-apart s buffers Erq from to octets options =
     by (Some refused) = refl
 hand_up-apart s buffers Erp from to octets options = by (find (is_answer from to octets) s.pending)
   where
-    by : (found : Option unit.Unit) → takes_reply (record s { buffers = buffers }) from to octets found ≡ with_buffers buffers (takes_reply s from to octets found)
+    by : (found : Option DataUnit) → takes_reply (record s { buffers = buffers }) from to octets found ≡ with_buffers buffers (takes_reply s from to octets found)
     by None = refl
     by (Some request) = refl
 
@@ -163,7 +162,7 @@ module _ (local : EntityState) (now : ℕ) (segment : Segment) (s : SystemState)
       → table_later.limits ≡ handed.table.limits → table.Stands table_later (without segment.key later)
       → Stands (record handed { table = table_later }) (offer s frame arrival).after
   whole_stands handed table_later octets whole e found octets_are handed_stands limits table_stands =
-      subst (λ (deed : machine.Deed). Stands (record handed { table = table_later }) deed.after)
+      subst (λ (deed : locally.Deed). Stands (record handed { table = table_later }) deed.after)
       (sym (offer_is buffer.Whole e ∙ whole_is octets whole found octets_are))
       (stands_with handed table_later _ handed_stands limits (without segment.key later) (without arrival.key others) table_stands
       (without_shown later others later_shown segment.key ∙ ap (λ (k : Key). map (map_buffer wire) (without k others)) same_key)
@@ -174,7 +173,7 @@ module _ (local : EntityState) (now : ℕ) (segment : Segment) (s : SystemState)
       → Appends before behind (hand_up (record s { buffers = others }) arrival.carried.unit.kind segment.key.from segment.key.to octets arrival.carried.options).actions
       → Appends before behind (offer s frame arrival).actions
   whole_appends octets whole before behind e found octets_are appends =
-      subst (λ (deed : machine.Deed). Appends before behind deed.actions)
+      subst (λ (deed : locally.Deed). Appends before behind deed.actions)
       (sym (offer_is buffer.Whole e ∙ whole_is octets whole found octets_are)) appends
 
 -- no buffer is due or whole afterwards

@@ -15,7 +15,7 @@ use Rattle.clnp_machine.specs.Reassembly.Arrival.{arrival_of}
 use Rattle.clnp_machine.specs.Reassembly.Mapped.{map_arrival}
 use Rattle.clnp_machine.specs.Reassembly.Offered.{MayCome}
 use Rattle.clnp_machine.specs.Unit.{Packet, IsCarriable, value_of, wire}
-use Rattle.clnp_machine.specs.Steps.{CarriesOnePacket}
+use Rattle.clnp_machine.specs.EveryStep.{CarriesOnePacket}
 use Rattle.clnp_machine.specs.Content.{Labelled}
 use Rattle.clnp_machine.specs.System.{SystemState}
 use Rattle.clnp_machine.specs.Local.{hand_up, identifier_in, is_all, offer, offered, receive}

@@ -3,11 +3,11 @@ use Rattle.std.proofs.Common.{◌≡◌, ℕ, ◌<◌, ◌≤◌, Bool, true, Op
 use Rattle.std.proofs.lemmas.Bool.Decides.{nat_tests}
 use Rattle.clnp_machine.specs.ClnpPlan.Configuration.{SystemConfiguration}
 use Rattle.clnp_machine.specs.ClnpPlan.declared.ask.SendRefusal.{SendRefusal}
-use Rattle.clnp_machine.specs.ClnpPlan.declared.ask.SendRefusal.TheVariants as send
+use Rattle.clnp_machine.specs.ClnpPlan.declared.ask.SendRefusal.TheVariants as send_refusal
 use Rattle.clnp_machine.specs.ClnpPlan.declared.note.Note.{Note}
 use Rattle.clnp_machine.specs.ClnpPlan.declared.note.Note.TheVariants.{Refused}
 use Rattle.clnp_machine.specs.ClnpPlan.declared.note.Why.TheVariants as why
-use Rattle.clnp_machine.specs.Unit.{Unit}
+use Rattle.clnp_machine.specs.Unit.{DataUnit}
 use Rattle.clnp_machine.specs.System.{SystemState}
 use Rattle.clnp_machine.specs.Local.{has_address, header_size, identifier_refusal, is_own, refusal}
 use Rattle.local_entity.specs.State.{EntityState}
@@ -34,10 +34,10 @@ pub own_of : (local : EntityState) (s : SystemState) (address : List ℕ) (own :
     → own ≡ has_address local.configuration address → own ≡ is_own s address
 own_of local s address own stands e = e ∙ ap (λ (c : SystemConfiguration). has_address c address) stands.configuration
 
-module _ (s : SystemState) (u : Unit) (own : Bool) (mine : own ≡ is_own s u.source) where
+module _ (s : SystemState) (u : DataUnit) (own : Bool) (mine : own ≡ is_own s u.source) where
   -- its header has too many octets
   pub why_long_header : (e : SendRefusal) → own ≡ true → length u.octets ≤ 64512
-      → (e ≡ send.TooLong (header_size u)) × (254 < header_size u) → IsWhy e (refusal s u)
+      → (e ≡ send_refusal.TooLong (header_size u)) × (254 < header_size u) → IsWhy e (refusal s u)
   why_long_header e is_mine few (is, long) =
       subst (λ (r : SendRefusal). IsWhy r (refusal s u)) (sym is)
       (long_header (is_own s u.source) (length u.octets) (header_size u) (identifier_refusal s u.identifier) (sym mine ∙ is_mine) few long)

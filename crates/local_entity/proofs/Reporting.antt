@@ -1,9 +1,9 @@
 -- The error report of a frame's discard.
 use Rattle.std.proofs.Common.{◌≡◌, sym, ap, refl, subst, ℕ, List, [], ◌∷◌, ◌++◌}
 use Rattle.clnp_machine.specs.Content.{Content, frame_of}
-use Rattle.clnp_machine.specs.Unit.{Unit}
+use Rattle.clnp_machine.specs.Unit.{DataUnit}
 use Rattle.clnp_machine.specs.System.{SystemState, next_number}
-use Rattle.clnp_machine.specs.Local as machine
+use Rattle.clnp_machine.specs.Local as locally
 use Rattle.clnp_machine.specs.Local.{Deed, Sends, Tells, discard, makes, report_unit, reports, reports_from, rests, sent_note}
 use Rattle.clnp_machine.specs.ClnpPlan.declared.note.Note.TheVariants as note
 use Rattle.local_entity.specs.declared.action.Action.{Action}
@@ -17,12 +17,12 @@ use Rattle.local_entity.proofs.Appending.{appends-more, appends-note}
 module _ (local : EntityState) (s : SystemState) (content : Content) (frame : List ℕ) (reason place : ℕ) (stands : Stands local s)
     (same : frame_of content ≡ frame) where
   -- what a discard comes to
-  discards : discard s content reason place ≡ machine.and_then (machine.tells s (note.Discard reason place)) (λ (t : SystemState). reports t frame reason place)
-  discards = ap (λ (f : List ℕ). machine.and_then (machine.tells s (note.Discard reason place)) (λ (t : SystemState). reports t f reason place)) same
+  discards : discard s content reason place ≡ locally.and_then (locally.tells s (note.Discard reason place)) (λ (t : SystemState). reports t frame reason place)
+  discards = ap (λ (f : List ℕ). locally.and_then (locally.tells s (note.Discard reason place)) (λ (t : SystemState). reports t f reason place)) same
 
   module _ (draft : Draft) (report : IsReportOf s frame reason place draft) (n : ℕ) (number : n ≡ next_number s) where
     pub told : (before mid after : List Action) → mid ≡ before ++ Noted (note.Discard reason place) ∷ []
-        → ((u : Unit) → IsDraft draft u → n ≡ u.number → Appends mid after (Tells (sent_note u) ∷ Sends u ∷ []))
+        → ((u : DataUnit) → IsDraft draft u → n ≡ u.number → Appends mid after (Tells (sent_note u) ∷ Sends u ∷ []))
         → Appends before after (discard s content reason place).actions
     told before mid after noted sent =
         subst (λ (d : Deed). Appends before after d.actions) (sym discards)

@@ -19,14 +19,14 @@ use Rattle.clnp_machine.specs.ClnpPlan.declared.config.PortConfig.{PortConfig}
 use Rattle.clnp_machine.specs.ClnpPlan.declared.note.Note.TheVariants.{Discard}
 use Rattle.clnp_machine.specs.ClnpPlan.declared.output.Output.{Output}
 use Rattle.clnp_machine.specs.ClnpPlan.declared.output.Output.TheVariants.{Note as Noted}
-use Rattle.clnp_machine.specs.Unit.{IsCarriable, Packet, Unit as DataUnit, cut, value_of, whole_packet, wire}
+use Rattle.clnp_machine.specs.Unit.{IsCarriable, Packet, DataUnit, cut, value_of, whole_packet, wire}
 use Rattle.clnp_machine.specs.System.{SystemState, Transmits}
 use Rattle.clnp_machine.specs.ClnpOptions.Reasons.{reason_code}
 use Rattle.clnp_machine.specs.ClnpOptions.declared.reasons.Reason.TheVariants.{SegmentationNotPermitted}
 use Rattle.clnp_machine.specs.Step.{first_sent, no_way, sent_on, transmissions}
+use Rattle.clnp_machine.specs.declared.way.Hop.{Hop}
 use Rattle.clnp_machine.specs.Given.{Appends, GiveAll, IsSentFor, frame_in}
-use Rattle.local_entity.specs.declared.sending.Hop.{Hop}
-use Rattle.local_entity.specs.Sending.{hop_option, machine_hop, piece_frame, transmission}
+use Rattle.local_entity.specs.Sending.{piece_frame, transmission}
 use Rattle.clnp_machine.proofs.Pieces.{AreBoth, AreThese, IsThis, cut_both}
 
 seen_of_part : (body : Extent) (from len : ℕ) → from + len ≤ body.len → seen (part from len body) ≡ take len (drop from (seen body))
@@ -59,7 +59,7 @@ piece_is_sent p piece packet body moment hop this shown whole made none =
 
 pieces_are_sent : (p : Packet) (pieces : List Piece) (packets : List Packet) (body : Extent) (moment : ℕ) (hop : Hop) → AreThese p pieces packets
     → seen body ≡ (value_of p).body → length (seen body) ≡ body.len → p.unit.made ≡ moment → p.hops ≡ 0
-    → GiveAll moment (map (transmission false hop body) (map given pieces)) (map (λ packet. Transmits hop.port hop.target packet) packets)
+    → GiveAll moment None (map (transmission false hop body) (map given pieces)) (map (λ packet. Transmits hop.port hop.target packet) packets)
 pieces_are_sent p [] [] body moment hop these shown whole made none = tt
 pieces_are_sent p (piece ∷ others) (packet ∷ packets) body moment hop these shown whole made none = (
   piece_is_sent p piece packet body moment hop these.0 shown whole made none,
@@ -75,18 +75,18 @@ IsAnswer octets pieces result = MatchOption pieces (result ≡ Err (record { oct
 cuts_are_sent : (p : Packet) (pieces : Option (List Piece)) (packets : Option (List Packet)) (body : Extent) (moment : ℕ) (hop : Hop) (octets : ℕ)
     (result : Result (List Cut) NotPermitted) (cuts : List Cut) → AreBoth p pieces packets → IsAnswer octets pieces result → result ≡ Ok cuts
     → seen body ≡ (value_of p).body → length (seen body) ≡ body.len → p.unit.made ≡ moment → p.hops ≡ 0
-    → GiveAll moment (map (transmission false hop body) cuts) (transmissions (machine_hop hop) packets)
+    → GiveAll moment None (map (transmission false hop body) cuts) (transmissions hop packets)
 cuts_are_sent p None None body moment hop octets result cuts both answer ok shown whole made none = absurd (cc)
 cuts_are_sent p (Some pieces) (Some packets) body moment hop octets result cuts both answer ok shown whole made none =
     let same : map given pieces ≡ cuts = cc in
-    subst (λ (cs : List Cut). GiveAll moment (map (transmission false hop body) cs) (transmissions (machine_hop hop) (Some packets))) same
+    subst (λ (cs : List Cut). GiveAll moment None (map (transmission false hop body) cs) (transmissions hop (Some packets))) same
     (pieces_are_sent p pieces packets body moment hop both shown whole made none)
 cuts_are_sent p None (Some packets) body moment hop octets result cuts both answer ok shown whole made none = absurd both
 cuts_are_sent p (Some pieces) None body moment hop octets result cuts both answer ok shown whole made none = absurd both
 
 none_is_sent : (p : Packet) (pieces : Option (List Piece)) (packets : Option (List Packet)) (moment : ℕ) (hop : Hop) (octets : ℕ)
     (result : Result (List Cut) NotPermitted) (refused : NotPermitted) → AreBoth p pieces packets → IsAnswer octets pieces result → result ≡ Err refused
-    → GiveAll moment (Noted (Discard (reason_code SegmentationNotPermitted) 0) ∷ []) (transmissions (machine_hop hop) packets)
+    → GiveAll moment None (Noted (Discard (reason_code SegmentationNotPermitted) 0) ∷ []) (transmissions hop packets)
 none_is_sent p None None moment hop octets result refused both answer err = (refl, tt)
 none_is_sent p (Some pieces) (Some packets) moment hop octets result refused both answer err = absurd (cc)
 none_is_sent p None (Some packets) moment hop octets result refused both answer err = absurd both
@@ -119,7 +119,7 @@ unit_length u body shown len e = ap length (whole_body u) ∙ ap length (sym sho
 pub unit_is_sent : (u : DataUnit) (hop : Hop) (port : PortConfig) (head : List ℕ) (body : Extent) (len : ℕ) (result : Result (List Cut) NotPermitted)
     (cuts : List Cut) (before after : List Output) → IsMadeOf u head body → len ≡ length (seen body) → CutsSay head len port.mtu result → result ≡ Ok cuts
     → 512 ≤ port.mtu → u.first_position ≡ 0 → after ≡ before ++ map (transmission false hop body) cuts
-    → Appends u.made before after (sent_on (machine_hop hop) (Some port) u)
+    → Appends u.made None before after (sent_on hop (Some port) u)
 unit_is_sent u hop port head body len result cuts before after made e say ok least first written =
     let p : Packet = whole_packet u in
     let h : IsCarriable p = whole_carriable u made.spells.pdu first in
@@ -136,7 +136,7 @@ pub unit_is_dropped : (u : DataUnit) (hop : Hop) (port : PortConfig) (head : Lis
     (refused : NotPermitted) (before after : List Output) → IsMadeOf u head body → len ≡ length (seen body) → CutsSay head len port.mtu result
     → result ≡ Err refused → 512 ≤ port.mtu → u.first_position ≡ 0
     → after ≡ before ++ Noted (Discard (reason_code SegmentationNotPermitted) 0) ∷ []
-    → Appends u.made before after (sent_on (machine_hop hop) (Some port) u)
+    → Appends u.made None before after (sent_on hop (Some port) u)
 unit_is_dropped u hop port head body len result refused before after made e say err least first written =
     let p : Packet = whole_packet u in
     let h : IsCarriable p = whole_carriable u made.spells.pdu first in
@@ -166,17 +166,17 @@ port_missing ports i j same beyond =
 -- by a port that is there
 pub sent_by : (s : SystemState) (u : DataUnit) (hop : Hop) (way : Option Hop) (ports : List PortConfig) (port : PortConfig)
     → ports ≡ s.attached.ports → way ≡ Some hop → slice_get ports hop.port ≡ Some port
-    → sent_on (machine_hop hop) (Some port) u ≡ first_sent s u (hop_option way)
+    → sent_on hop (Some port) u ≡ first_sent s u way
 sent_by s u hop way ports port same is at =
-    ap (λ (o : Option PortConfig). sent_on (machine_hop hop) o u) (sym at)
-    ∙ ap (λ (ps : List PortConfig). sent_on (machine_hop hop) (slice_get ps hop.port) u) same
-    ∙ ap (λ (o : Option Hop). first_sent s u (hop_option o)) (sym is)
+    ap (λ (o : Option PortConfig). sent_on hop o u) (sym at)
+    ∙ ap (λ (ps : List PortConfig). sent_on hop (slice_get ps hop.port) u) same
+    ∙ ap (λ (o : Option Hop). first_sent s u o) (sym is)
 
 -- by one that isn't
 pub sent_by_none : (s : SystemState) (u : DataUnit) (hop : Hop) (way : Option Hop) (ports : List PortConfig)
     → ports ≡ s.attached.ports → way ≡ Some hop → slice_get ports hop.port ≡ None
-    → no_way ≡ first_sent s u (hop_option way)
+    → no_way ≡ first_sent s u way
 sent_by_none s u hop way ports same is at =
-    ap (λ (o : Option PortConfig). sent_on (machine_hop hop) o u) (sym at)
-    ∙ ap (λ (ps : List PortConfig). sent_on (machine_hop hop) (slice_get ps hop.port) u) same
-    ∙ ap (λ (o : Option Hop). first_sent s u (hop_option o)) (sym is)
+    ap (λ (o : Option PortConfig). sent_on hop o u) (sym at)
+    ∙ ap (λ (ps : List PortConfig). sent_on hop (slice_get ps hop.port) u) same
+    ∙ ap (λ (o : Option Hop). first_sent s u o) (sym is)

@@ -7,14 +7,13 @@ use Rattle.clnp_machine.specs.Reassembly.Buffer.{Buffer}
 use Rattle.clnp_machine.specs.Reassembly.Mapped.{map_buffers}
 use Rattle.clnp_machine.specs.Reassembly.State as table
 use Rattle.clnp_machine.specs.ClnpPlan.declared.ask.SendRefusal.{SendRefusal}
-use Rattle.clnp_machine.specs.ClnpPlan.declared.ask.SendRefusal.TheVariants as refusal
+use Rattle.clnp_machine.specs.ClnpPlan.declared.ask.SendRefusal.TheVariants as send_refusal
 use Rattle.clnp_machine.specs.ClnpPlan.declared.note.Note.{Note}
 use Rattle.clnp_machine.specs.ClnpPlan.declared.note.Note.TheVariants.{Refused}
 use Rattle.clnp_machine.specs.ClnpPlan.declared.note.Why.TheVariants as why
-use Rattle.clnp_machine.specs.Unit as unit
-use Rattle.clnp_machine.specs.Unit.{Packet, wire, value_of, whole_packet}
+use Rattle.clnp_machine.specs.Unit.{DataUnit, Packet, wire, value_of, whole_packet}
 use Rattle.clnp_machine.specs.System.{SystemState, table_limits}
-use Rattle.clnp_machine.specs.Local as machine
+use Rattle.clnp_machine.specs.Local as locally
 use Rattle.clnp_machine.specs.Local.{IsAsOffered}
 use Rattle.local_entity.specs.Pool as pool
 use Rattle.local_entity.specs.declared.action.Action.{Action}
@@ -24,14 +23,14 @@ use Rattle.local_entity.specs.declared.pending.Request.{Request}
 use Rattle.local_entity.specs.State.{EntityState}
 
 -- a noted request is one that the system made
-pub record IsRequest (request : Request) (u : unit.Unit) : Type 0 where
+pub record IsRequest (request : Request) (u : DataUnit) : Type 0 where
   pub number : request.unit ≡ u.number
   pub source : request.from ≡ u.source
   pub destination : request.to ≡ u.destination
   pub shown : seen request.body ≡ u.octets
 
 -- the noted requests are these, one by one
-abbrev pub AreRequests : List Request → List unit.Unit → Type 0
+abbrev pub AreRequests : List Request → List DataUnit → Type 0
 AreRequests requests units = AllZip IsRequest requests units
 
 -- An entity stands for the state of a system, whatever its place and its moment.
@@ -48,7 +47,7 @@ pub record Stands (entity : EntityState) (s : SystemState) : Type 0 where
   pub pending : AreRequests entity.pending s.pending
 
 -- what the code is about to make is a unit
-pub record IsDraft (draft : Draft) (u : unit.Unit) : Type 0 where
+pub record IsDraft (draft : Draft) (u : DataUnit) : Type 0 where
   pub kind : draft.kind ≡ u.kind
   pub identifier : draft.id ≡ u.identifier
   pub source : draft.from ≡ u.source
@@ -57,31 +56,31 @@ pub record IsDraft (draft : Draft) (u : unit.Unit) : Type 0 where
   pub shown : seen draft.body ≡ u.octets
 
 -- an action of the code is one of the model
-abbrev pub Does : Action → machine.Action → Type 0
-Does (Noted note) (machine.Tells told) = note ≡ told
-Does (Send made) (machine.Sends u) =
+abbrev pub Does : Action → locally.Action → Type 0
+Does (Noted note) (locally.Tells told) = note ≡ told
+Does (Send made) (locally.Sends u) =
     (made.unit ≡ u.number) × (made.to ≡ u.destination) × SpellsHeader (value_of (whole_packet u)) made.head × (seen made.body ≡ u.octets)
-Does (Noted note) (machine.Sends u) = ⊥
-Does (Send made) (machine.Tells told) = ⊥
+Does (Noted note) (locally.Sends u) = ⊥
+Does (Send made) (locally.Tells told) = ⊥
 
-abbrev pub DoAll : List Action → List machine.Action → Type 0
+abbrev pub DoAll : List Action → List locally.Action → Type 0
 DoAll actions others = AllZip Does actions others
 
 -- actions that are these ones of the model were appended
-pub record Appends (before after : List Action) (others : List machine.Action) : Type 0 where
+pub record Appends (before after : List Action) (others : List locally.Action) : Type 0 where
   pub actions : List Action
   pub appended : after ≡ before ++ actions
   pub do_all : DoAll actions others
 
 -- what a refusal says; want of memory says nothing
 abbrev pub refusal_note : SendRefusal → Option Note
-refusal_note refusal.NotMine = Some (Refused why.NotMine 0)
-refusal_note (refusal.TooLong octets) = Some (Refused why.TooLong octets)
-refusal_note (refusal.IdsBusy used) = Some (Refused why.IdsBusy used)
-refusal_note (refusal.Quiet until) = Some (Refused why.Quiet until)
-refusal_note refusal.NoMemory = None
+refusal_note send_refusal.NotMine = Some (Refused why.NotMine 0)
+refusal_note (send_refusal.TooLong octets) = Some (Refused why.TooLong octets)
+refusal_note (send_refusal.IdsBusy used) = Some (Refused why.IdsBusy used)
+refusal_note (send_refusal.Quiet until) = Some (Refused why.Quiet until)
+refusal_note send_refusal.NoMemory = None
 
 -- the refusal is why the unit isn't made; want of memory alone is free
 abbrev pub IsWhy : SendRefusal → Option Note → Type 0
-IsWhy refusal.NoMemory answer = Unit {0}
+IsWhy send_refusal.NoMemory answer = Unit {0}
 IsWhy e answer = answer ≡ refusal_note e

@@ -2,13 +2,13 @@
 use Rattle.std.specs.Prelude.{◌≡◌, ℕ, ◌%◌, ◌^◌, slice_get, Some}
 use Rattle.clnp_machine.specs.Identifiers.{Use, Identifiers, NotDrawn, IsQuiet, IsBusy, last_use, next}
 use Rattle.local_entity.specs.declared.pool.DrawRefusal.{DrawRefusal}
-use Rattle.local_entity.specs.declared.pool.DrawRefusal.TheVariants as refusal
+use Rattle.local_entity.specs.declared.pool.DrawRefusal.TheVariants as draw_refusal
 use Rattle.local_entity.specs.declared.pool.IdPool.{IdPool}
 
 -- what the code's refusal says
 abbrev pub told : DrawRefusal → NotDrawn
-told (refusal.Quiet until) = IsQuiet until
-told (refusal.IdsBusy used) = IsBusy used
+told (draw_refusal.Quiet until) = IsQuiet until
+told (draw_refusal.IdsBusy used) = IsBusy used
 
 -- a pool stands for these identifiers
 pub record Stands (pool : IdPool) (ids : Identifiers) : Type 0 where

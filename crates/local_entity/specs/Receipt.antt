@@ -1,6 +1,6 @@
 -- PDUs that come: what their units are for, whether one is all of its unit, the segment of the code that it is, and the arrival of the model.
 use Rattle.std.specs.Prelude.{◌≡◌, ℕ, ◌+◌, ◌==◌, ◌&&◌, not, if◌then◌else◌, Bool, List, length, Option, None, Some}
-use Rattle.clnp_machine.specs.ClnpViews.Extent.{part, seen, whole}
+use Rattle.clnp_machine.specs.ClnpViews.Extent.{Extent, part, seen, whole}
 use Rattle.clnp_machine.specs.PduHeader.declared.pdu.Pdu.{Pdu}
 use Rattle.clnp_machine.specs.PduHeader.declared.pdu.SegPart.{SegPart}
 use Rattle.clnp_machine.specs.PduHeader.declared.kind.Kind.{Kind}
@@ -9,9 +9,10 @@ use Rattle.clnp_machine.specs.PduHeader.Spelling.{type_code}
 use Rattle.clnp_machine.specs.ClnpOptions.Parameter.{Parameter}
 use Rattle.clnp_machine.specs.ErrorReports.Told.{cause_in, place_in}
 use Rattle.clnp_machine.specs.Reassembly.declared.segment.Segment.{Segment}
-use Rattle.clnp_machine.specs.Reassembly.Arrival.{Arrival, arrival_of}
-use Rattle.clnp_machine.specs.Reassembly.Buffer.{Answer, Buffer, Held, Whole, Interference, Repeat, NoSlot, Crowded, Many}
+use Rattle.clnp_machine.specs.Reassembly.Arrival.{Arrival, arrival_of, octet_in}
+use Rattle.clnp_machine.specs.Reassembly.Buffer.{Answer, Buffer, Held, Whole, Interference, Repeat, NoSlot, Crowded, Many, buffer_of, data_of}
 use Rattle.clnp_machine.specs.Reassembly.Mapped.{map_arrival}
+use Rattle.clnp_machine.specs.Reassembly.State.{Names, Stands, TableState}
 use Rattle.clnp_machine.specs.Unit.{Packet, wire}
 use Rattle.clnp_machine.specs.Local.{IsAsOffered}
 use Rattle.clnp_machine.specs.System.{SystemState}
@@ -45,6 +46,15 @@ segment_in frame pdu seg =
 pub record IsShown (segment : Segment) (arrival : Arrival Packet) : Type 0 where
   pub as_offered : IsAsOffered arrival
   pub shown : map_arrival seen (arrival_of segment) ≡ map_arrival wire arrival
+
+-- these octets are the data of a whole unit, whose buffer has this slot of the table
+pub record AreDataAt (table : TableState) (slot : ℕ) (octets : List ℕ) : Type 0 where
+  pub buffers : List (Buffer Extent)
+  pub stands : Stands table buffers
+  pub buffer : Buffer Extent
+  pub is_there : buffer_of buffer.key buffers ≡ Some buffer
+  pub named : Names table slot buffer.key
+  pub octets_are : octets ≡ data_of octet_in buffer
 
 -- a system whose buffers are these once it kept a segment, by the answer to that
 abbrev pub with_answer : SystemState → List (Buffer Packet) → Answer → SystemState

@@ -6,7 +6,8 @@ ghost use Rattle.local_entity.specs.Apart.{AreApart, drawn_at};
 
 /// An identifier that is drawn wasn't used in the `reuse` ticks before.
 pub fn a_drawn_identifier_has_rested()
-    ensures { (now : ℕ) (ids : Identifiers) → not_drawn now ids ≡ None → (used : ℕ) → last_use (next ids) ids.uses ≡ Some used
+    ensures { (now : ℕ) (ids : Identifiers) → not_drawn now ids ≡ None → (used : ℕ)
+        → last_use (next ids) ids.uses ≡ Some used
         → used + ids.reuse ≤ now }
 {}
 
@@ -21,6 +22,8 @@ pub fn nothing_is_drawn_in_quiet_time()
 /// Two uses of one identifier, in whatever series of moments at which one was asked for, are at least `reuse` ticks
 /// apart.
 pub fn uses_of_an_identifier_are_apart()
-    ensures kept { (now : ℕ) (ids : Identifiers) → AreApart ids.reuse ids.uses → AreApart ids.reuse (drawn now ids).uses }
-    ensures always { (reuse quiet : ℕ) (moments : List ℕ) → AreApart reuse (drawn_at moments (opening reuse quiet)).uses }
+    ensures kept { (now : ℕ) (ids : Identifiers) → AreApart ids.reuse ids.uses
+        → AreApart ids.reuse (drawn now ids).uses }
+    ensures always { (reuse quiet : ℕ) (moments : List ℕ)
+        → AreApart reuse (drawn_at moments (opening reuse quiet)).uses }
 {}

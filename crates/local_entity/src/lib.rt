@@ -15,4 +15,4 @@ pub use action::{Action, Made};
 pub use local::Local;
 pub use pool::{DrawRefusal, IdPool};
 pub use refusal::refusal_note;
-pub use sending::{Hop, give_pieces, send_unit};
+pub use sending::{give_pieces, send_unit};

@@ -3,7 +3,7 @@
 ghost use Rattle.std.specs.Prelude.{◌≡◌, ◌≤◌, ◌<◌, ◌+◌, ◌-◌, ◌^◌, ◌∷◌, [], ℕ, min, IfOk, OnOk, OnErr, List, MatchResult, None, Some, if◌then◌else◌, length, vec_capacity, vec_len};
 ghost use Rattle.clnp_machine.specs.ClnpOptions.Grammar.{FitsKind};
 ghost use Rattle.clnp_machine.specs.ClnpOptions.Parameter.{parameters, spelled};
-ghost use Rattle.clnp_machine.specs.ClnpViews.Extent.{seen};
+ghost use Rattle.clnp_machine.specs.ClnpViews.Extent.{whole};
 ghost use Rattle.clnp_machine.specs.ClnpPlan.declared.ask.SendRefusal.TheVariants.{TooLong};
 ghost use Rattle.clnp_machine.specs.PduHeader.Grammar.{is_report};
 ghost use Rattle.clnp_machine.specs.PduHeader.Headers.{SpellsHeader};
@@ -11,10 +11,9 @@ ghost use Rattle.clnp_machine.specs.PduHeader.Parts.{AreFit, parts_value};
 ghost use Rattle.clnp_machine.specs.Reassembly.Buffer.{held};
 ghost use Rattle.clnp_machine.specs.Reassembly.State.{IsReady};
 ghost use Rattle.clnp_machine.specs.System.{SystemState, first_state, next_number};
-ghost use Rattle.clnp_machine.specs.Local as machine;
+ghost use Rattle.clnp_machine.specs.Local as locally;
 ghost use Rattle.clnp_machine.specs.Local.{Sends, Tells, has_address, sent_note};
-ghost use Rattle.clnp_machine.specs.Unit as unit;
-ghost use Rattle.clnp_machine.specs.Unit.{value_of, whole_packet};
+ghost use Rattle.clnp_machine.specs.Unit.{DataUnit, value_of, whole_packet};
 ghost use Rattle.local_entity.specs.Local.{Appends, IsDraft, IsWhy, Stands};
 ghost use Rattle.local_entity.specs.Pool.{Stands as StandsFor};
 
@@ -23,7 +22,7 @@ use crate::pending::{Pending, Request};
 use crate::pool::{DrawRefusal, IdPool};
 use clnp_machine::clnp_base::NoMemory;
 use clnp_machine::clnp_plan::{Ask, Limits, Note, SendRefusal, SystemConfig};
-use clnp_machine::clnp_views::View;
+use clnp_machine::clnp_views::{Frame, View};
 use clnp_machine::nsap::Address;
 use clnp_machine::pdu_header::{Header, HeaderRefusal, Kind, Parts, SegPart};
 use clnp_machine::reassembly::{Table, TableLimits};
@@ -102,8 +101,9 @@ impl Local {
         })
     }
 
-    /// Makes a unit of some octets, and appends its note and then the unit itself. An echo request is still to be answered
-    /// then, in place of the oldest of those that are where they are eight.
+    /// Makes a unit of some octets, which are copied once nothing refuses it, and appends its note and then the unit
+    /// itself. An echo request is still to be answered then, in place of the oldest of those that are where they are
+    /// eight.
     ///
     /// # Errors
     ///
@@ -118,27 +118,26 @@ impl Local {
         kind: Kind,
         from: Address,
         to: Address,
-        body: &View,
+        body: &[u8],
         ask: &Ask,
         out: &mut Vec<Action>,
     ) -> Result<u64, SendRefusal>
         requires moment { now < 2 ^ 62 }
         requires options { FitsKind (is_report kind) (parameters ask.now.options) }
         ensures answer { (s : SystemState) → Stands self.old s → s.moment ≡ now → MatchResult result
-            (λ unit. (machine.refusal s (machine.unit_of s kind from to (seen body.now) ask.now) ≡ None) × (unit ≡ next_number s))
-            (λ e. IsWhy e (machine.refusal s (machine.unit_of s kind from to (seen body.now) ask.now))) }
+            (λ unit. (locally.refusal s (locally.unit_of s kind from to body.now ask.now) ≡ None) × (unit ≡ next_number s))
+            (λ e. IsWhy e (locally.refusal s (locally.unit_of s kind from to body.now ask.now))) }
         ensures stands { OnOk result ((s : SystemState) → Stands self.old s → s.moment ≡ now
-            → Stands self.new (machine.make s kind from to (seen body.now) ask.now).after) }
+            → Stands self.new (locally.make s kind from to body.now ask.now).after) }
         ensures actions { OnOk result ((s : SystemState) → Stands self.old s → s.moment ≡ now
-            → Appends out.old.items out.new.items (machine.make s kind from to (seen body.now) ask.now).actions) }
+            → Appends out.old.items out.new.items (locally.make s kind from to body.now ask.now).actions) }
         ensures same { OnErr result (self.new ≡ self.old) }
         ensures none { OnErr result (out.new.items ≡ out.old.items) }
         ensures config { self.new.configuration ≡ self.old.configuration }
         ensures table { self.new.table ≡ self.old.table }
     {
-        let len = body.bytes().len();
-        let head = self.next_header(now, kind, from, to, len, ask)?;
-        let Ok(body) = body.share() else {
+        let head = self.next_header(now, kind, from, to, body.len(), ask)?;
+        let Ok(body) = copied(alloc, body) else {
             return Err(SendRefusal::NoMemory);
         };
         let unit = self.units.saturating_add(1);
@@ -167,7 +166,7 @@ impl Local {
         requires room { vec_len out.old + 2 ≤ vec_capacity out.old }
         ensures number { result ≡ min (self.old.count + 1) (2 ^ 64 - 1) }
         ensures counted { self.new ≡ record self.old { count = result } }
-        ensures actions { (u : unit.Unit) → IsDraft draft u → result ≡ u.number
+        ensures actions { (u : DataUnit) → IsDraft draft u → result ≡ u.number
             → Appends out.old.items out.new.items (Tells (sent_note u) ∷ Sends u ∷ []) }
         ensures len { vec_len out.new ≤ vec_len out.old + 2 }
         ensures capacity { vec_capacity out.old ≤ vec_capacity out.new }
@@ -204,11 +203,12 @@ impl Local {
     ) -> Result<Header, SendRefusal>
         requires moment { now < 2 ^ 62 }
         requires options { FitsKind (is_report kind) (parameters ask.now.options) }
-        ensures answer { (s : SystemState) (octets : List ℕ) → Stands self.now s → s.moment ≡ now → length octets ≡ body_len
+        ensures answer { (s : SystemState) (octets : List ℕ) → Stands self.now s → s.moment ≡ now
+            → length octets ≡ body_len
             → MatchResult result
-            (λ head. (machine.refusal s (machine.unit_of s kind from to octets ask.now) ≡ None)
-            × SpellsHeader (value_of (whole_packet (machine.unit_of s kind from to octets ask.now))) head)
-            (λ e. IsWhy e (machine.refusal s (machine.unit_of s kind from to octets ask.now))) }
+            (λ head. (locally.refusal s (locally.unit_of s kind from to octets ask.now) ≡ None)
+            × SpellsHeader (value_of (whole_packet (locally.unit_of s kind from to octets ask.now))) head)
+            (λ e. IsWhy e (locally.refusal s (locally.unit_of s kind from to octets ask.now))) }
         ensures few { OnOk result (body_len ≤ 64512) }
     {
         if !self.is_own(&from) {
@@ -233,10 +233,11 @@ impl Local {
     ) -> Result<Header, SendRefusal>
         requires few { body_len ≤ 64512 }
         requires options { FitsKind (is_report kind) (parameters ask.now.options) }
-        ensures { (s : SystemState) (octets : List ℕ) → Stands self.now s → length octets ≡ body_len → MatchResult result
-            (λ head. SpellsHeader (value_of (whole_packet (machine.unit_of s kind from to octets ask.now))) head)
-            (λ e. (e ≡ TooLong (machine.header_size (machine.unit_of s kind from to octets ask.now)))
-            × (254 < machine.header_size (machine.unit_of s kind from to octets ask.now))) }
+        ensures { (s : SystemState) (octets : List ℕ) → Stands self.now s → length octets ≡ body_len
+            → MatchResult result
+            (λ head. SpellsHeader (value_of (whole_packet (locally.unit_of s kind from to octets ask.now))) head)
+            (λ e. (e ≡ TooLong (locally.header_size (locally.unit_of s kind from to octets ask.now)))
+            × (254 < locally.header_size (locally.unit_of s kind from to octets ask.now))) }
     {
         let parts = self.parts(kind, from, to, body_len, ask);
         match Header::make(&parts, body_len) {
@@ -252,7 +253,7 @@ impl Local {
         requires options { FitsKind (is_report kind) (parameters ask.now.options) }
         ensures fit { AreFit result body_len }
         ensures value { (s : SystemState) (octets : List ℕ) → Stands self.now s → length octets ≡ body_len
-            → parts_value result octets ≡ value_of (whole_packet (machine.unit_of s kind from to octets ask.now)) }
+            → parts_value result octets ≡ value_of (whole_packet (locally.unit_of s kind from to octets ask.now)) }
     {
         Parts {
             kind,
@@ -305,7 +306,8 @@ impl Local {
     /// rests. The count of units goes on.
     pub fn restart(&mut self, now: u64)
         requires { now < 2 ^ 62 }
-        ensures stands { (s : SystemState) → Stands self.old s → s.moment ≡ now → Stands self.new (machine.restarted s) }
+        ensures stands { (s : SystemState) → Stands self.old s → s.moment ≡ now
+            → Stands self.new (locally.restarted s) }
         ensures config { self.new.configuration ≡ self.old.configuration }
         ensures ready { (moment : ℕ) → IsReady moment self.new.table }
     {
@@ -329,12 +331,19 @@ impl Local {
     }
 }
 
+/// The view of a copy of some octets.
+fn copied(alloc: Global, octets: &[u8]) -> Result<View, NoMemory>
+    ensures { IfOk result (λ view. view ≡ whole octets.now) }
+{
+    Ok(Frame::copy(alloc, octets)?.into_view())
+}
+
 /// Whether an identifier can be drawn, where one is needed.
 fn may_draw(pool: &IdPool, now: u64, segment: bool) -> Result<(), SendRefusal>
     requires { now < 2 ^ 62 }
     ensures { (s : SystemState) → StandsFor pool.now s.identifiers → s.moment ≡ now → MatchResult result
-        (λ _. machine.identifier_refusal s (machine.identifier_for s segment) ≡ None)
-        (λ e. IsWhy e (machine.identifier_refusal s (machine.identifier_for s segment))) }
+        (λ _. locally.identifier_refusal s (locally.identifier_for s segment) ≡ None)
+        (λ e. IsWhy e (locally.identifier_refusal s (locally.identifier_for s segment))) }
 {
     if !segment {
         return Ok(());
@@ -348,9 +357,9 @@ fn may_draw(pool: &IdPool, now: u64, segment: bool) -> Result<(), SendRefusal>
 
 /// The identifier of the next unit, where it needs one.
 fn drawn(pool: &mut IdPool, now: u64, segment: bool) -> Option<u16>
-    ensures id { (s : SystemState) → StandsFor pool.old s.identifiers → result ≡ machine.identifier_for s segment }
+    ensures id { (s : SystemState) → StandsFor pool.old s.identifiers → result ≡ locally.identifier_for s segment }
     ensures stands { (s : SystemState) → StandsFor pool.old s.identifiers → s.moment ≡ now
-        → StandsFor pool.new (machine.with_use s (machine.identifier_for s segment)) }
+        → StandsFor pool.new (locally.with_use s (locally.identifier_for s segment)) }
 {
     if !segment {
         return None;

@@ -2,7 +2,7 @@
 ghost use Rattle.std.specs.Prelude.{◌≡◌, ◌<◌, [], List, IfOk, Some, length, option_map, slice_get};
 ghost use Rattle.std.specs.List.{find, position_from, remove};
 ghost use Rattle.clnp_machine.specs.PduHeader.declared.kind.Kind.{Kind as KindOf};
-ghost use Rattle.clnp_machine.specs.Unit as unit;
+ghost use Rattle.clnp_machine.specs.Unit.{DataUnit};
 ghost use Rattle.clnp_machine.specs.Local.{is_answer, with_made, without_answered};
 ghost use Rattle.local_entity.specs.Local.{AreRequests, IsRequest};
 ghost use Rattle.local_entity.specs.Pending.{answers, request_of};
@@ -98,7 +98,8 @@ impl Pending {
 
     /// Notes a unit that was made, where it is a request; where there are eight before it, the oldest goes.
     pub(crate) fn note(&mut self, request: Option<Request>)
-        ensures { (kind : KindOf) (pending : List unit.Unit) (u : unit.Unit) (noted : Request) → AreRequests self.old pending
+        ensures { (kind : KindOf) (pending : List DataUnit) (u : DataUnit) (noted : Request)
+            → AreRequests self.old pending
             → request ≡ request_of kind noted → IsRequest noted u → AreRequests self.new (with_made kind pending u) }
     {
         let Some(request) = request else {
@@ -112,9 +113,9 @@ impl Pending {
 
     /// Takes out the oldest request that a reply between two addresses with these data answers, and gives its number.
     pub(crate) fn take(&mut self, from: &Address, to: &Address, body: &[u8]) -> Option<u64>
-        ensures number { (pending : List unit.Unit) → AreRequests self.old pending
+        ensures number { (pending : List DataUnit) → AreRequests self.old pending
             → result ≡ option_map (λ u. u.number) (find (is_answer from.now to.now body.now) pending) }
-        ensures left { (pending : List unit.Unit) → AreRequests self.old pending
+        ensures left { (pending : List DataUnit) → AreRequests self.old pending
             → AreRequests self.new (without_answered (is_answer from.now to.now body.now) pending) }
     {
         let place = self.place_of(from, to, body)?;

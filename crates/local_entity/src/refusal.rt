@@ -1,6 +1,6 @@
 //! Units that aren't made.
 ghost use Rattle.std.specs.Prelude.{◌≡◌, IfOk, OnErr, Some};
-ghost use Rattle.local_entity.specs.Local as local;
+ghost use Rattle.local_entity.specs.Local as local_entity;
 
 use clnp_machine::clnp_base::NoMemory;
 use clnp_machine::clnp_plan::{Note, SendRefusal, Why};
@@ -11,7 +11,7 @@ use clnp_machine::clnp_plan::{Note, SendRefusal, Why};
 ///
 /// `NoMemory` exactly where this is why.
 pub fn refusal_note(refusal: SendRefusal) -> Result<Note, NoMemory>
-    ensures note { IfOk result (λ note. local.refusal_note refusal ≡ Some note) }
+    ensures note { IfOk result (λ note. local_entity.refusal_note refusal ≡ Some note) }
     ensures memory { OnErr result (refusal ≡ SendRefusal.NoMemory) }
 {
     let (why, value) = match refusal {

@@ -1,12 +1,12 @@
 //! PDUs that go out in pieces, cut for the MTU of a port (ISO/IEC 8473, section 6.7): a unit that was made here, or a PDU that
 //! is forwarded.
-ghost use Rattle.std.specs.Prelude.{◌≡◌, ◌≤◌, ◌+◌, ◌++◌, [], ◌∷◌, IfOk, OnOk, OnErr, Some, length, map, take};
+ghost use Rattle.std.specs.Prelude.{◌≡◌, ◌≤◌, ◌+◌, ◌++◌, [], ◌∷◌, IfOk, OnOk, OnErr, Some, length, map, take, None};
 ghost use Rattle.std.specs.List.{AllByRecursion};
 ghost use Rattle.clnp_machine.specs.Given.{Appends};
 ghost use Rattle.clnp_machine.specs.Local.{Sends};
 ghost use Rattle.clnp_machine.specs.Step.{first_sent, sent_on};
 ghost use Rattle.clnp_machine.specs.System.{SystemState};
-ghost use Rattle.clnp_machine.specs.Unit.{Unit};
+ghost use Rattle.clnp_machine.specs.Unit.{DataUnit};
 ghost use Rattle.clnp_machine.specs.ClnpOptions.Reasons.{reason_code};
 ghost use Rattle.clnp_machine.specs.ClnpPlan.Configuration.{IsPort};
 ghost use Rattle.clnp_machine.specs.ClnpPlan.declared.note.Note.TheVariants.{Discard};
@@ -14,22 +14,15 @@ ghost use Rattle.clnp_machine.specs.ClnpPlan.declared.output.Output.TheVariants.
 ghost use Rattle.clnp_machine.specs.Segmenter.Left.{IsCutOf};
 ghost use Rattle.local_entity.specs.declared.action.Action.TheVariants.{Send};
 ghost use Rattle.local_entity.specs.Local.{Does};
-ghost use Rattle.local_entity.specs.Sending.{hop_option, machine_hop, transmission};
+ghost use Rattle.local_entity.specs.Sending.{transmission};
 
 use crate::action::Made;
 use clnp_machine::clnp_base::NoMemory;
 use clnp_machine::clnp_options::Reason;
 use clnp_machine::clnp_plan::{Note, Output, PortConfig, Sending};
 use clnp_machine::clnp_views::View;
-use clnp_machine::nsap::Target;
 use clnp_machine::segmenter::{Cut, Cuts, NotPermitted};
-
-/// Where a PDU goes next: the number of a port, and whom a frame is for on its subnetwork.
-#[derive(Clone, Copy, PartialEq, Eq)]
-pub struct Hop {
-    pub port: u8,
-    pub target: Target,
-}
+use clnp_machine::way::Hop;
 
 /// Sends a unit in pieces to where it goes next, by one of these ports, or notes that it may not be cut, or that there is no way
 /// for it.
@@ -43,10 +36,10 @@ pub fn send_unit(
     ports: &[PortConfig],
     out: &mut Vec<Output>,
 ) -> Result<(), NoMemory>
-    requires made { (u : Unit) × Does (Send made.now) (Sends u) }
+    requires made { (u : DataUnit) × Does (Send made.now) (Sends u) }
     requires ports { AllByRecursion IsPort ports.now }
-    ensures sent { OnOk result ((s : SystemState) (u : Unit) → ports.now ≡ s.attached.ports → Does (Send made.now) (Sends u)
-        → u.first_position ≡ 0 → Appends u.made out.old.items out.new.items (first_sent s u (hop_option hop))) }
+    ensures sent { OnOk result ((s : SystemState) (u : DataUnit) → ports.now ≡ s.attached.ports → Does (Send made.now) (Sends u)
+        → u.first_position ≡ 0 → Appends u.made None out.old.items out.new.items (first_sent s u hop)) }
     ensures none { OnErr result (out.new.items ≡ out.old.items) }
 {
     let Some(hop) = hop else {
@@ -60,10 +53,10 @@ pub fn send_unit(
 
 /// Sends a unit in pieces on a port, or notes that it may not be cut.
 fn send_on(made: &Made, hop: Hop, port: &PortConfig, out: &mut Vec<Output>) -> Result<(), NoMemory>
-    requires made { (u : Unit) × Does (Send made.now) (Sends u) }
+    requires made { (u : DataUnit) × Does (Send made.now) (Sends u) }
     requires least { 512 ≤ port.now.mtu }
-    ensures sent { OnOk result ((u : Unit) → Does (Send made.now) (Sends u) → u.first_position ≡ 0
-        → Appends u.made out.old.items out.new.items (sent_on (machine_hop hop) (Some port.now) u)) }
+    ensures sent { OnOk result ((u : DataUnit) → Does (Send made.now) (Sends u) → u.first_position ≡ 0
+        → Appends u.made None out.old.items out.new.items (sent_on hop (Some port.now) u)) }
     ensures none { OnErr result (out.new.items ≡ out.old.items) }
 {
     let octets = made.body.bytes().len();

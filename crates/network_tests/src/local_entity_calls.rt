@@ -108,10 +108,9 @@ fn make(
 ) {
     let own = Address::from_bytes(b"\x47\x00\x27\x02").expect(rt, "an address");
     let ask = asking(rt);
-    let body = Frame::copy(alloc, b"hi").expect(rt, "memory").into_view();
     assert!(rt; limits.hold >= 1);
     let mut local = Local::new(alloc, system, limits, 0).expect(rt, "memory");
-    let made = local.make(alloc, 0, Kind::Dt, own, own, &body, &ask, out);
+    let made = local.make(alloc, 0, Kind::Dt, own, own, b"hi", &ask, out);
     assert!(rt; made.ok() == Some(1));
 }
 

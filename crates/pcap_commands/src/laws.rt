@@ -18,7 +18,8 @@ use command_base::Status;
 /// Octets call for one answer.
 pub fn one_answer()
     ensures some { (octets : List ℕ) → IsBytes (take most_octets octets) → (status : Status) × Calls octets status }
-    ensures one { (octets : List ℕ) (status other : Status) → Calls octets status → Calls octets other → status ≡ other }
+    ensures one { (octets : List ℕ) (status other : Status) → Calls octets status → Calls octets other
+        → status ≡ other }
 {}
 
 /// The records that octets are read as call for one output.

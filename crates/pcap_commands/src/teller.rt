@@ -63,7 +63,8 @@ impl Teller {
         ensures size { OnOk result (self.new.size ≡ self.old.size + length piece.now) }
         ensures counted { OnOk result (self.new.number ≤ self.new.size) }
         ensures form { OnOk result (self.new.form ≡ self.old.form) }
-        ensures takes { (taken : List ℕ) (before : Option (List ℕ)) → Underway [] self.old taken before (K.written sink.old)
+        ensures takes { (taken : List ℕ) (before : Option (List ℕ))
+            → Underway [] self.old taken before (K.written sink.old)
             → TookOf self.old.form self.new (taken ++ piece.now) before (K.written sink.new) result }
         ensures read_fault { result ≢ Err Status.ReadFault }
         ensures failed { result ≡ Err Status.WriteFault → Rose (K.faults sink.old) (K.faults sink.new) }
@@ -93,7 +94,8 @@ impl Teller {
         ensures size { IfOk result (λ count. self.new.size ≡ self.old.size + count) }
         ensures counted { OnOk result (self.new.number ≤ self.new.size) }
         ensures form { OnOk result (self.new.form ≡ self.old.form) }
-        ensures takes { (taken : List ℕ) (before : Option (List ℕ)) → Underway [] self.old taken before (K.written sink.old)
+        ensures takes { (taken : List ℕ) (before : Option (List ℕ))
+            → Underway [] self.old taken before (K.written sink.old)
             → FedOf self.old.form self.new taken piece.now before (K.written sink.new) result }
         ensures read_fault { result ≢ Err Status.ReadFault }
         ensures failed { result ≡ Err Status.WriteFault → Rose (K.faults sink.old) (K.faults sink.new) }
@@ -160,7 +162,8 @@ impl Teller {
         ensures later { K.faults sink.old ≤ K.faults sink.new }
         ensures wrote { FinishOf answer self.old.block.items (K.written sink.old) (K.written sink.new) result }
         ensures read_fault { answer ≢ Status.ReadFault → result ≢ Status.ReadFault }
-        ensures failed { answer ≢ Status.WriteFault → result ≡ Status.WriteFault → Rose (K.faults sink.old) (K.faults sink.new) }
+        ensures failed { answer ≢ Status.WriteFault → result ≡ Status.WriteFault
+            → Rose (K.faults sink.old) (K.faults sink.new) }
     {
         match write_block(&mut self.block, sink) {
             Ok(()) => answer,

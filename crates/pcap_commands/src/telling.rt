@@ -84,7 +84,8 @@ fn take_next<S: Source, K: Sink>(
     ensures size { IfNone result ((teller.old.size < teller.new.size) × (teller.new.size ≤ most_octets)) }
     ensures counted { IfNone result (teller.new.number ≤ teller.new.size) }
     ensures form { IfNone result (teller.new.form ≡ teller.old.form) }
-    ensures comes_to { (left before : Option (List ℕ)) → GoesOn teller.old left (S.left source.old) before (K.written sink.old)
+    ensures comes_to { (left before : Option (List ℕ))
+        → GoesOn teller.old left (S.left source.old) before (K.written sink.old)
         → NextOf teller.old.form teller.new left (S.left source.new) before (K.written sink.new) result }
     ensures read_fault { result ≡ Some Status.ReadFault → Rose (S.faults source.old) (S.faults source.new) }
     ensures write_fault { result ≡ Some Status.WriteFault → Rose (K.faults sink.old) (K.faults sink.new) }
@@ -121,7 +122,8 @@ fn take_piece<K: Sink>(
     ensures counted { IfNone result (teller.new.number ≤ teller.new.size) }
     ensures form { IfNone result (teller.new.form ≡ teller.old.form) }
     ensures comes_to { (taken : List ℕ) (left_before left_after before : Option (List ℕ))
-        → Underway [] teller.old taken before (K.written sink.old) → Consumes left_before left_after (taken ++ piece.now)
+        → Underway [] teller.old taken before (K.written sink.old)
+        → Consumes left_before left_after (taken ++ piece.now)
         → (length piece.now ≡ 0 → IsAtEnd left_after)
         → NextOf teller.old.form teller.new left_before left_after before (K.written sink.new) result }
     ensures read_fault { result ≢ Some Status.ReadFault }

@@ -8,7 +8,7 @@ pub mod Shape
 pub mod Spelled
 pub mod Read
 pub mod Frames
-pub mod Fill
+pub mod InPlace
 pub mod Written
 pub mod MoreFlag
 pub mod Changed

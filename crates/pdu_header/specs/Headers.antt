@@ -54,4 +54,5 @@ pub record IsEdited (start : ℕ) (change : List Parameter → List Parameter) (
   pub octets : new ≡ take start old ++ spelled (change (parameters (drop start old)))
   pub len : length new ≡ length old
   pub well_formed : IsWellFormed (spelled (change (parameters (drop start old))))
-  pub accepted : (is_report : Bool) → Accepts is_report (drop start old) → Accepts is_report (spelled (change (parameters (drop start old))))
+  pub accepted : (is_report : Bool) → Accepts is_report (drop start old)
+      → Accepts is_report (spelled (change (parameters (drop start old))))

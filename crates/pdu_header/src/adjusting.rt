@@ -12,7 +12,8 @@ pub(crate) fn adjust(head: &mut [u8], place: usize, new: u8)
     requires last { place ≤ length head.old }
     requires not_octet_8 { place ≢ 8 }
     requires not_octet_9 { place ≢ 9 }
-    ensures { (is_sealed : Bool) (plain : List ℕ) → octet plain 8 ≡ 0 → head.old ≡ checked is_sealed plain → head.new ≡ checked is_sealed (slice_set plain (place - 1) new) }
+    ensures { (is_sealed : Bool) (plain : List ℕ) → octet plain 8 ≡ 0 → head.old ≡ checked is_sealed plain
+        → head.new ≡ checked is_sealed (slice_set plain (place - 1) new) }
 {
     fletcher::adjust(head, place, new);
 }
@@ -24,7 +25,8 @@ pub(crate) fn adjust_each(head: &mut [u8], changed: &[u8], start: usize)
     requires behind { 9 ≤ start }
     requires within { start ≤ length head.old }
     requires same { length changed.now ≡ length head.old }
-    ensures { (is_sealed : Bool) (plain : List ℕ) → octet plain 8 ≡ 0 → head.old ≡ checked is_sealed plain → head.new ≡ checked is_sealed (take start plain ++ drop start changed.now) }
+    ensures { (is_sealed : Bool) (plain : List ℕ) → octet plain 8 ≡ 0 → head.old ≡ checked is_sealed plain
+        → head.new ≡ checked is_sealed (take start plain ++ drop start changed.now) }
 {
     for index in start..head.len() {
         let new = changed[index];

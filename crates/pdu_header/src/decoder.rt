@@ -3,9 +3,9 @@ ghost use Rattle.clnp_options.specs.Reasons.{reason_code};
 ghost use Rattle.clnp_options.specs.Rules.{Gives, refusal as options_refusal};
 ghost use Rattle.pdu_header.specs.Grammar as grammar;
 ghost use Rattle.pdu_header.specs.Grammar.{BeginsWith};
-ghost use Rattle.pdu_header.specs.Reading as reading;
+ghost use Rattle.pdu_header.specs.Reading as pdu_reading;
 ghost use Rattle.pdu_header.specs.Reading.{body_of, rest_of, segmentation_at, value_of};
-ghost use Rattle.pdu_header.specs.Rules as rules;
+ghost use Rattle.pdu_header.specs.Rules as pdu_rules;
 ghost use Rattle.pdu_header.specs.Rules.{addresses_refusal, data_size, extent_refusal, fixed_part_refusal, header_size, is_unfit_range, is_bad_address, lengths_refusal, octet, options_part, options_place, part_place, refusal, source_place, type_of};
 ghost use Rattle.pdu_header.specs.Headers.{SpellsHeader};
 ghost use Rattle.pdu_header.specs.Spelling.{header, header_length};
@@ -41,8 +41,8 @@ pub fn decode(frame: &[u8]) -> Result<Pdu<'_>, Refusal>
     ensures header { IfOk result (λ pdu. pdu.head.now ≡ header (pdu_value pdu)) }
     ensures spells { IfOk result (λ pdu. SpellsHeader (pdu_value pdu) pdu.head.now) }
     ensures size { IfOk result (λ pdu. length pdu.head.now ≡ header_length (pdu_value pdu)) }
-    ensures head { IfOk result (λ pdu. pdu.head.now ≡ rules.header_of frame.now) }
-    ensures sum { IfOk result (λ pdu. pdu.sum ≡ rules.pair_at pdu.head.now 8) }
+    ensures head { IfOk result (λ pdu. pdu.head.now ≡ pdu_rules.header_of frame.now) }
+    ensures sum { IfOk result (λ pdu. pdu.sum ≡ pdu_rules.pair_at pdu.head.now 8) }
     ensures options { IfOk result (λ pdu. pdu.options.now ≡ options_part pdu.head.now) }
 {
     if !is_clnp(frame) {
@@ -70,10 +70,10 @@ pub(crate) fn is_clnp(frame: &[u8]) -> bool
 #[tactic(auto, unfolding(crate::specs::Rules::refusal, crate::specs::Rules::header_refusal))]
 fn read(frame: &[u8]) -> Result<Pdu<'_>, OptionRefusal>
     ensures judged { Gives result (refusal frame.now) }
-    ensures value { IfOk result (λ pdu. pdu_value pdu ≡ value_of (rules.header_of frame.now) (body_of frame.now)) }
+    ensures value { IfOk result (λ pdu. pdu_value pdu ≡ value_of (pdu_rules.header_of frame.now) (body_of frame.now)) }
     ensures rest { IfOk result (λ pdu. pdu.rest.now ≡ rest_of frame.now) }
-    ensures head { IfOk result (λ pdu. pdu.head.now ≡ rules.header_of frame.now) }
-    ensures sum { IfOk result (λ pdu. pdu.sum ≡ rules.pair_at pdu.head.now 8) }
+    ensures head { IfOk result (λ pdu. pdu.head.now ≡ pdu_rules.header_of frame.now) }
+    ensures sum { IfOk result (λ pdu. pdu.sum ≡ pdu_rules.pair_at pdu.head.now 8) }
     ensures options { IfOk result (λ pdu. pdu.options.now ≡ options_part pdu.head.now) }
 {
     let (head, behind) = header_of(frame)?;
@@ -116,7 +116,7 @@ fn broken(rule: u8, reason: Reason, place: u8) -> OptionRefusal
 #[tactic(auto, unfolding(crate::specs::Rules::extent_refusal))]
 pub(crate) fn header_of(frame: &[u8]) -> Result<(&[u8], &[u8]), OptionRefusal>
     ensures judged { Gives result (extent_refusal frame.now) }
-    ensures header { IfOk result (λ r. r.0.now ≡ rules.header_of frame.now) }
+    ensures header { IfOk result (λ r. r.0.now ≡ pdu_rules.header_of frame.now) }
     ensures behind { IfOk result (λ r. r.1.now ≡ drop (header_size frame.now) frame.now) }
     ensures size { IfOk result (λ r. length r.0.now ≡ header_size frame.now) }
     ensures at_least { IfOk result (λ r. 9 ≤ length r.0.now) }
@@ -139,7 +139,7 @@ pub(crate) fn header_of(frame: &[u8]) -> Result<(&[u8], &[u8]), OptionRefusal>
 fn pair_at(head: &[u8], place: usize) -> u16
     requires first { 1 ≤ place }
     requires last { place + 1 ≤ length head.now }
-    ensures { result ≡ rules.pair_at head.now place }
+    ensures { result ≡ pdu_rules.pair_at head.now place }
 {
     BigEndian::read_u16(&[head[place - 1], head[place]])
 }
@@ -147,7 +147,7 @@ fn pair_at(head: &[u8], place: usize) -> u16
 /// Whether the header has a segmentation part.
 pub(crate) fn is_segmented(head: &[u8]) -> bool
     requires { 9 ≤ length head.now }
-    ensures { result ≡ rules.is_segmented head.now }
+    ensures { result ≡ pdu_rules.is_segmented head.now }
 {
     head[4] >= SEGMENTATION_PERMITTED
 }
@@ -155,7 +155,7 @@ pub(crate) fn is_segmented(head: &[u8]) -> bool
 /// Whether data of the same unit follows behind this PDU's.
 pub(crate) fn has_more(head: &[u8]) -> bool
     requires { 9 ≤ length head.now }
-    ensures { result ≡ rules.has_more head.now }
+    ensures { result ≡ pdu_rules.has_more head.now }
 {
     head[4] / MORE_SEGMENTS % 2 == 1
 }
@@ -163,7 +163,7 @@ pub(crate) fn has_more(head: &[u8]) -> bool
 /// Whether an error report is wanted where the PDU is discarded.
 pub(crate) fn wants_report(head: &[u8]) -> bool
     requires { 9 ≤ length head.now }
-    ensures { result ≡ rules.wants_report head.now }
+    ensures { result ≡ pdu_rules.wants_report head.now }
 {
     head[4] / ERROR_REPORT % 2 == 1
 }
@@ -171,7 +171,7 @@ pub(crate) fn wants_report(head: &[u8]) -> bool
 /// The kind that the header's type says, where it is known.
 pub(crate) fn kind_of(head: &[u8]) -> Option<Kind>
     requires { 9 ≤ length head.now }
-    ensures { result ≡ rules.kind_of (type_of head.now) }
+    ensures { result ≡ pdu_rules.kind_of (type_of head.now) }
 {
     Kind::from_type(head[4] % TYPES)
 }
@@ -180,7 +180,7 @@ pub(crate) fn kind_of(head: &[u8]) -> Option<Kind>
 fn has_right_checksum(head: &[u8]) -> bool
     requires at_least { 9 ≤ length head.now }
     requires at_most { length head.now ≤ 254 }
-    ensures { result ≡ rules.has_right_checksum head.now }
+    ensures { result ≡ pdu_rules.has_right_checksum head.now }
 {
     fletcher::is_right(head)
 }
@@ -191,7 +191,7 @@ fn check_fixed_part(head: &[u8]) -> Result<Kind, OptionRefusal>
     requires at_least { 9 ≤ length head.now }
     requires at_most { length head.now ≤ 254 }
     ensures judged { Gives result (fixed_part_refusal head.now) }
-    ensures kind { IfOk result (λ kind. rules.kind_of (type_of head.now) ≡ Some kind) }
+    ensures kind { IfOk result (λ kind. pdu_rules.kind_of (type_of head.now) ≡ Some kind) }
 {
     if head[2] != VERSION {
         return Err(broken(4, Reason::UnsupportedVersion, 3));
@@ -213,7 +213,7 @@ fn address_at(head: &[u8], place: usize) -> Option<Address>
     requires first { 1 ≤ place }
     requires last { place ≤ 254 }
     ensures none { MatchOption result (is_bad_address head.now place ≡ true) (λ _. is_bad_address head.now place ≡ false) }
-    ensures value { IfSome result (λ address. address ≡ reading.address_at head.now place) }
+    ensures value { IfSome result (λ address. address ≡ pdu_reading.address_at head.now place) }
     ensures size { IfSome result (λ address. octet head.now place ≡ length address) }
     ensures within { IfSome result (λ address. place + length address ≤ length head.now) }
     ensures few { IfSome result (λ address. length address ≤ 20) }
@@ -245,8 +245,8 @@ pub(crate) fn read_addresses(head: &[u8]) -> Result<Addresses, OptionRefusal>
     requires at_least { 9 ≤ length head.now }
     requires at_most { length head.now ≤ 254 }
     ensures judged { Gives result (addresses_refusal head.now) }
-    ensures to { IfOk result (λ addresses. addresses.to ≡ reading.address_at head.now 10) }
-    ensures from { IfOk result (λ addresses. addresses.from ≡ reading.address_at head.now (source_place head.now)) }
+    ensures to { IfOk result (λ addresses. addresses.to ≡ pdu_reading.address_at head.now 10) }
+    ensures from { IfOk result (λ addresses. addresses.from ≡ pdu_reading.address_at head.now (source_place head.now)) }
     ensures end { IfOk result (λ addresses. addresses.end ≡ part_place head.now) }
     ensures within { IfOk result (λ addresses. addresses.end ≤ length head.now + 1) }
 {
@@ -265,9 +265,9 @@ pub(crate) fn read_addresses(head: &[u8]) -> Result<Addresses, OptionRefusal>
 pub(crate) fn segmentation_part(head: &[u8], place: usize) -> SegPart
     requires first { 1 ≤ place }
     requires last { place + 5 ≤ length head.now }
-    ensures id { result.id ≡ rules.pair_at head.now place }
-    ensures offset { result.offset ≡ rules.pair_at head.now (place + 2) }
-    ensures total { result.total ≡ rules.pair_at head.now (place + 4) }
+    ensures id { result.id ≡ pdu_rules.pair_at head.now place }
+    ensures offset { result.offset ≡ pdu_rules.pair_at head.now (place + 2) }
+    ensures total { result.total ≡ pdu_rules.pair_at head.now (place + 4) }
 {
     SegPart {
         id: pair_at(head, place),
@@ -343,7 +343,7 @@ fn options_place(head: &[u8], end: usize) -> usize
     requires long { 9 ≤ length head.now }
     requires end { end ≡ part_place head.now }
     requires within { end ≤ 255 }
-    ensures { result ≡ rules.options_place head.now }
+    ensures { result ≡ pdu_rules.options_place head.now }
 {
     if is_segmented(head) {
         end + SEGMENTATION_PART
@@ -365,7 +365,7 @@ fn read_options(head: &[u8], place: usize, kind: Kind) -> Result<&[u8], OptionRe
     requires at_most { length head.now ≤ 254 }
     requires place { place ≡ options_place head.now }
     requires within { place ≤ length head.now + 1 }
-    requires kind { rules.kind_of (type_of head.now) ≡ Some kind }
+    requires kind { pdu_rules.kind_of (type_of head.now) ≡ Some kind }
     ensures judged { Gives result (options_refusal (options_part head.now) (options_place head.now) (type_of head.now == 1)) }
     ensures value { IfOk result (λ options. options.now ≡ options_part head.now) }
 {

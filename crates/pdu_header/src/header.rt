@@ -11,7 +11,7 @@ ghost use Rattle.pdu_header.specs.View.{part_value};
 ghost use Rattle.pdu_header.specs.Parts.{AreFit, checked, parts_length, parts_value, too_long};
 ghost use Rattle.pdu_header.specs.Headers.{IsHeader, SpellsHeader, with_pair, TakesSegment, MayCarry, LeadsOn, with_lifetime, with_segment, at_offset, with_options};
 
-use crate::cells::Cells;
+use crate::cells::{adjust, advance_route, mark_congestion, record_title, take_over};
 use crate::decoder::{has_more, is_segmented, segmentation_part};
 use crate::layout::{
     MORE_SEGMENTS, MOST_HEADER, MOST_TOTAL, SEGMENTATION_PART, SEGMENTATION_PERMITTED,
@@ -22,6 +22,7 @@ use crate::write::{header_len, written};
 use byteorder::{BigEndian, ByteOrder};
 use clnp_views::Head;
 use nsap::Address;
+use nsap::clnp_base::InlineOctets;
 use std::marker::Model;
 
 /// Why no header can be made.
@@ -39,7 +40,7 @@ pub enum HeaderRefusal {
 /// value; of the data the header tells the length alone.
 #[derive(Clone, Copy, PartialEq, Eq)]
 pub struct Header {
-    cells: Cells,
+    cells: InlineOctets<MOST_HEADER>,
 }
 
 impl Model for Header {
@@ -62,7 +63,7 @@ impl Header {
         requires { IsHeader pdu.now.head.now }
         ensures { result ≡ pdu.now.head.now }
     {
-        let mut cells = Cells::new();
+        let mut cells = InlineOctets::new();
         cells.push(pdu.head);
         Header { cells }
     }
@@ -134,21 +135,23 @@ impl Header {
         ensures spells { (v : PduValue) → SpellsHeader v self.old → SpellsHeader (with_lifetime life v) self.new }
         ensures len { length self.new ≡ length self.old }
     {
-        self.cells.adjust(4, life);
+        adjust(&mut self.cells, 4, life);
     }
 
     /// Makes the header that of another segment of the same unit (ISO 8473, section 6.7): with `len` octets
     /// of data from this offset in the unit's data, and `more` where data of the unit follows behind them.
     pub fn set_segment(&mut self, offset: u16, len: u16, more: bool)
         requires { TakesSegment self.old offset len more }
-        ensures spells { (v : PduValue) (carries : MayCarry v offset len more) → SpellsHeader v self.old → (body : List ℕ) → length body ≡ len → SpellsHeader (with_segment (at_offset offset carries.part) more body v) self.new }
+        ensures spells { (v : PduValue) (carries : MayCarry v offset len more) → SpellsHeader v self.old
+            → (body : List ℕ) → length body ≡ len
+            → SpellsHeader (with_segment (at_offset offset carries.part) more body v) self.new }
         ensures len { length self.new ≡ length self.old }
     {
         let octets = self.cells.as_bytes();
         let part = part_index(octets);
         let flags = flags_with_more(octets[4], more);
         let total = octets.len() as u16 + len;
-        self.cells.adjust(5, flags);
+        adjust(&mut self.cells, 5, flags);
         put_pair(&mut self.cells, 6, total);
         put_pair(&mut self.cells, part + 3, offset);
     }
@@ -173,37 +176,40 @@ impl Header {
     /// Moves the pointer of the source route past the title there (ISO 8473, section 7.5.4).
     pub fn advance_route(&mut self)
         requires { LeadsOn self.old }
-        ensures spells { (v : PduValue) → SpellsHeader v self.old → SpellsHeader (with_options (edited source_route advanced v.options) v) self.new }
+        ensures spells { (v : PduValue) → SpellsHeader v self.old
+            → SpellsHeader (with_options (edited source_route advanced v.options) v) self.new }
         ensures len { length self.new ≡ length self.old }
     {
         let start = options_index(self.cells.as_bytes());
         let mut changed = self.cells;
-        changed.advance_route(start);
-        self.cells.take_over(changed.as_bytes(), start);
+        advance_route(&mut changed, start);
+        take_over(&mut self.cells, changed.as_bytes(), start);
     }
 
     /// Notes a router's title in the recording of route (section 7.5.5): puts it where it fits, else ends
     /// the recording. A header without a recording, or whose recording was ended, stays as it is.
     pub fn record_title(&mut self, title: &Address)
-        ensures spells { (v : PduValue) → SpellsHeader v self.old → SpellsHeader (with_options (edited recording (recorded title.now) v.options) v) self.new }
+        ensures spells { (v : PduValue) → SpellsHeader v self.old
+            → SpellsHeader (with_options (edited recording (recorded title.now) v.options) v) self.new }
         ensures len { length self.new ≡ length self.old }
     {
         let start = options_index(self.cells.as_bytes());
         let mut changed = self.cells;
-        changed.record_title(start, title.as_bytes());
-        self.cells.take_over(changed.as_bytes(), start);
+        record_title(&mut changed, start, title.as_bytes());
+        take_over(&mut self.cells, changed.as_bytes(), start);
     }
 
     /// Sets the bit "congestion experienced" in a quality of service of the globally unique format. Another
     /// header stays as it is.
     pub fn mark_congestion(&mut self)
-        ensures spells { (v : PduValue) → SpellsHeader v self.old → SpellsHeader (with_options (edited quality marked v.options) v) self.new }
+        ensures spells { (v : PduValue) → SpellsHeader v self.old
+            → SpellsHeader (with_options (edited quality marked v.options) v) self.new }
         ensures len { length self.new ≡ length self.old }
     {
         let start = options_index(self.cells.as_bytes());
         let mut changed = self.cells;
-        changed.mark_congestion(start);
-        self.cells.take_over(changed.as_bytes(), start);
+        mark_congestion(&mut changed, start);
+        take_over(&mut self.cells, changed.as_bytes(), start);
     }
 }
 
@@ -220,7 +226,8 @@ fn options_of(octets: &[u8]) -> &[u8]
 /// The index, from 0, of the options in a header.
 fn options_index(octets: &[u8]) -> usize
     requires { IsHeader octets.now }
-    ensures { (v : PduValue) → SpellsHeader v octets.now → result ≡ 11 + length v.destination + length v.source + length (segmentation_octets v.segmentation) }
+    ensures { (v : PduValue) → SpellsHeader v octets.now
+        → result ≡ 11 + length v.destination + length v.source + length (segmentation_octets v.segmentation) }
 {
     let part = part_index(octets);
     if octets[4] >= SEGMENTATION_PERMITTED {
@@ -255,17 +262,18 @@ fn flags_with_more(flags: u8, more: bool) -> u8
 }
 
 /// Writes a number of two octets at a place, counted from 1, and adjusts the checksum.
-fn put_pair(cells: &mut Cells, place: usize, number: u16)
+fn put_pair(cells: &mut InlineOctets<MOST_HEADER>, place: usize, number: u16)
     requires head { 9 ≤ length cells.old }
     requires first { 1 ≤ place }
     requires last { place + 1 ≤ length cells.old }
     requires few { place ≤ 253 }
     requires apart { (place ≤ 6) ⊎ (10 ≤ place) }
-    ensures changed { (is_sealed : Bool) (plain : List ℕ) → octet plain 8 ≡ 0 → cells.old ≡ checked is_sealed plain → cells.new ≡ checked is_sealed (with_pair plain place number) }
+    ensures changed { (is_sealed : Bool) (plain : List ℕ) → octet plain 8 ≡ 0 → cells.old ≡ checked is_sealed plain
+        → cells.new ≡ checked is_sealed (with_pair plain place number) }
     ensures len { length cells.new ≡ length cells.old }
 {
     let mut octets = [0; 2];
     BigEndian::write_u16(&mut octets, number);
-    cells.adjust(place, octets[0]);
-    cells.adjust(place + 1, octets[1]);
+    adjust(cells, place, octets[0]);
+    adjust(cells, place + 1, octets[1]);
 }

@@ -1,6 +1,6 @@
 //! The kinds of PDUs, and the types that stand for them in a header.
 ghost use Rattle.pdu_header.specs.Layout as layout;
-ghost use Rattle.pdu_header.specs.Rules as rules;
+ghost use Rattle.pdu_header.specs.Rules as pdu_rules;
 ghost use Rattle.std.specs.Prelude.{◌≡◌};
 
 /// The kind of a PDU (ISO 8473, section 7.2.7; the echo PDUs by RFC 1575, section 4).
@@ -19,7 +19,7 @@ pub enum Kind {
 impl Kind {
     /// The kind that a type says, where it is known.
     pub(crate) fn from_type(code: u8) -> Option<Kind>
-        ensures { result ≡ rules.kind_of code }
+        ensures { result ≡ pdu_rules.kind_of code }
     {
         match code {
             1 => Some(Kind::Er),

@@ -1,7 +1,7 @@
 //! Whether the discard of a frame is reported, and to whom.
 ghost use Rattle.nsap.specs.Address.{IsAddress};
 ghost use Rattle.pdu_header.specs.Reading.{address_at};
-ghost use Rattle.pdu_header.specs.Rules as rules;
+ghost use Rattle.pdu_header.specs.Rules as pdu_rules;
 ghost use Rattle.pdu_header.specs.Rules.{header_size, is_reportable, source_place, type_of};
 ghost use Rattle.std.specs.Prelude.{◌≡◌, ◌==◌, ◌≤◌, IfSome, is_some, length};
 
@@ -15,10 +15,10 @@ use crate::pdu::ReportTo;
 #[tactic(auto, unfolding(crate::specs::Rules::addresses_refusal))]
 pub fn reportable(frame: &[u8]) -> Option<ReportTo>
     ensures some { is_some result ≡ is_reportable frame.now }
-    ensures from { IfSome result (λ report. report.from ≡ address_at (rules.header_of frame.now) (source_place (rules.header_of frame.now))) }
+    ensures from { IfSome result (λ report. report.from ≡ address_at (pdu_rules.header_of frame.now) (source_place (pdu_rules.header_of frame.now))) }
     ensures address { IfSome result (λ report. IsAddress report.from) }
     ensures head_len { IfSome result (λ report. report.head_len ≡ header_size frame.now) }
-    ensures head { IfSome result (λ report. report.head_len ≡ length (rules.header_of frame.now)) }
+    ensures head { IfSome result (λ report. report.head_len ≡ length (pdu_rules.header_of frame.now)) }
 {
     if !is_clnp(frame) {
         return None;

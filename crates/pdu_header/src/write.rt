@@ -1,17 +1,18 @@
 //! A header written from its parts.
 ghost use Rattle.std.specs.Prelude.{◌≡◌, ◌+◌, ◌≤◌, ◌++◌, ◌<◌, ◌∷◌, [], List, ℕ, length, option_map};
-ghost use Rattle.pdu_header.specs.Spelling.{counted, flags_and_type, header, pair_of, segment_length, segmentation_octets};
+ghost use Rattle.pdu_header.specs.Spelling.{flags_and_type, header, pair_of, segment_length, segmentation_octets};
 ghost use Rattle.pdu_header.specs.Parts.{AreNumbers, AreTyped, parts_length, parts_value};
 ghost use Rattle.pdu_header.specs.View.{part_value};
 
-use crate::cells::Cells;
+use crate::cells::seal;
 use crate::layout::{
-    ERROR_REPORT, FIXED_PART, MORE_SEGMENTS, PROTOCOL, SEGMENTATION_PART, SEGMENTATION_PERMITTED,
-    VERSION,
+    ERROR_REPORT, FIXED_PART, MORE_SEGMENTS, MOST_HEADER, PROTOCOL, SEGMENTATION_PART,
+    SEGMENTATION_PERMITTED, VERSION,
 };
 use crate::parts::Parts;
 use crate::pdu::SegPart;
 use byteorder::{BigEndian, ByteOrder};
+use nsap::clnp_base::InlineOctets;
 
 /// The number of octets of the header that is made from these parts.
 pub(crate) fn header_len(parts: &Parts) -> usize
@@ -28,26 +29,27 @@ pub(crate) fn header_len(parts: &Parts) -> usize
 }
 
 /// The header that is made from these parts, with its length and that of header and body.
-pub(crate) fn written(parts: &Parts, head_len: u8, total: u16) -> Cells
+pub(crate) fn written(parts: &Parts, head_len: u8, total: u16) -> InlineOctets<MOST_HEADER>
     requires len { head_len ≡ parts_length parts.now }
     requires few { head_len ≤ 254 }
-    ensures value { (body : List ℕ) → segment_length (parts_value parts.now body) ≡ total → result ≡ header (parts_value parts.now body) }
+    ensures value { (body : List ℕ) → segment_length (parts_value parts.now body) ≡ total
+        → result ≡ header (parts_value parts.now body) }
     ensures typed { AreTyped parts.now }
 {
-    let mut cells = Cells::new();
+    let mut cells = InlineOctets::new();
     push_fixed(&mut cells, head_len, parts.life, flags(parts), total);
-    push_counted(&mut cells, parts.to.as_bytes());
-    push_counted(&mut cells, parts.from.as_bytes());
+    cells.push_counted(parts.to.as_bytes());
+    cells.push_counted(parts.from.as_bytes());
     push_segmentation(&mut cells, parts.seg);
     cells.push(parts.options.as_bytes());
     if parts.sealed {
-        cells.seal();
+        seal(&mut cells);
     }
     cells
 }
 
 /// Puts the fixed part, with a checksum that is not in use (ISO 8473, section 7.2).
-fn push_fixed(cells: &mut Cells, head_len: u8, life: u8, flags: u8, total: u16)
+fn push_fixed(cells: &mut InlineOctets<MOST_HEADER>, head_len: u8, life: u8, flags: u8, total: u16)
     requires { length cells.old + 9 ≤ 254 }
     ensures octets { cells.new ≡ cells.old ++ 0x81 ∷ head_len ∷ 1 ∷ life ∷ flags ∷ (pair_of total ++ 0 ∷ 0 ∷ []) }
     ensures life { life < 256 }
@@ -76,17 +78,8 @@ fn flags(parts: &Parts) -> u8
     flags
 }
 
-/// Puts an address behind its length octet.
-fn push_counted(cells: &mut Cells, address: &[u8])
-    requires { length cells.old + length (counted address.now) ≤ 254 }
-    ensures { cells.new ≡ cells.old ++ counted address.now }
-{
-    cells.push(&[address.len() as u8]);
-    cells.push(address);
-}
-
 /// Puts the segmentation part, if there is one.
-fn push_segmentation(cells: &mut Cells, part: Option<SegPart>)
+fn push_segmentation(cells: &mut InlineOctets<MOST_HEADER>, part: Option<SegPart>)
     requires { length cells.old + length (segmentation_octets (option_map part_value part)) ≤ 254 }
     ensures octets { cells.new ≡ cells.old ++ segmentation_octets (option_map part_value part) }
     ensures numbers { AreNumbers (option_map part_value part) }

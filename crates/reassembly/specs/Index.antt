@@ -26,12 +26,14 @@ pub record AreRunsOf (segments : List Segment) (opening : Opening) (runs : List 
   pub filled : (place : ℕ) → place < data_len opening.shape → filler place runs ≡ giver opening.key place segments
   pub few : length runs + 1 ≤ 2 * length (segments_of opening.key segments)
       + (lack opening.key 0 segments + lack opening.key (data_len opening.shape - 1) segments)
-  pub few_pieces : 1 ≤ length (segments_of opening.key segments) → pieces runs + 1 ≤ 2 * length (segments_of opening.key segments)
+  pub few_pieces : 1 ≤ length (segments_of opening.key segments)
+      → pieces runs + 1 ≤ 2 * length (segments_of opening.key segments)
 
 -- a list of runs for each opening
 pub record IsIndexOf (segments : List Segment) (openings : List Opening) (groups : List (List Run)) : Type 0 where
   pub number : length groups ≡ length openings
-  pub each : (slot : ℕ) (opening : Opening) (runs : List Run) → slice_get openings slot ≡ Some opening → slice_get groups slot ≡ Some runs
+  pub each : (slot : ℕ) (opening : Opening) (runs : List Run) → slice_get openings slot ≡ Some opening
+      → slice_get groups slot ≡ Some runs
       → AreRunsOf segments opening runs
 
 -- no two openings have one key, each is of a unit with data, each segment has its opening and may come

@@ -25,7 +25,8 @@ pub fn whole_where_each_place_is_covered<C>()
 /// In whatever order the same segments came, and whichever of them were kept twice, a whole unit has the same octets,
 /// where the segments agree on the places that they share.
 pub fn order_changes_no_octet<C>()
-    ensures octets { (read : Arrival C → ℕ → ℕ) (buffer other : Buffer C) → buffer.shape ≡ other.shape → HaveTheSame buffer.kept other.kept
+    ensures octets { (read : Arrival C → ℕ → ℕ) (buffer other : Buffer C) → buffer.shape ≡ other.shape
+        → HaveTheSame buffer.kept other.kept
         → Agree read buffer.kept → data_of read buffer ≡ data_of read other }
     ensures whole { (buffer other : Buffer C) → buffer.shape ≡ other.shape → HaveTheSame buffer.kept other.kept
         → is_whole buffer ≡ is_whole other }
@@ -46,7 +47,8 @@ pub fn a_kept_segment_counts_once<C>()
     ensures room { (limits : TableLimits) (arrival : Arrival C) (buffers : List (Buffer C))
         → refusal limits arrival buffers ≡ None → MayBeKept limits arrival buffers }
     ensures held { (limits : TableLimits) (now : ℕ) (arrival : Arrival C) (buffers : List (Buffer C))
-        → refusal limits arrival buffers ≡ None → held (after limits now arrival buffers) ≡ held buffers + arrival.size }
+        → refusal limits arrival buffers ≡ None
+        → held (after limits now arrival buffers) ≡ held buffers + arrival.size }
     ensures kept { (limits : TableLimits) (now : ℕ) (arrival : Arrival C) (buffers : List (Buffer C))
         → refusal limits arrival buffers ≡ None → kept (after limits now arrival buffers) ≡ kept buffers + 1 }
     ensures refused { (limits : TableLimits) (now : ℕ) (arrival : Arrival C) (buffers : List (Buffer C))
@@ -74,7 +76,8 @@ pub fn deadlines_never_move<C>()
 pub fn no_buffer_is_empty<C>()
     ensures after { (limits : TableLimits) (now : ℕ) (arrival : Arrival C) (buffers : List (Buffer C))
         → NoneIsEmpty buffers → NoneIsEmpty (after limits now arrival buffers) }
-    ensures without { (key : Key) (buffers : List (Buffer C)) → NoneIsEmpty buffers → NoneIsEmpty (without key buffers) }
+    ensures without { (key : Key) (buffers : List (Buffer C)) → NoneIsEmpty buffers
+        → NoneIsEmpty (without key buffers) }
     ensures undone { (key : Key) (buffers : List (Buffer C)) → NoneIsEmpty buffers → NoneIsEmpty (undone key buffers) }
 {}
 
@@ -83,12 +86,16 @@ pub fn whole_only_where_an_answer_says_so<C>()
     ensures answered { (limits : TableLimits) (now : ℕ) (arrival : Arrival C) (buffers : List (Buffer C))
         → answer limits now arrival buffers ≡ Whole → IsMadeWhole limits now arrival buffers }
     ensures else_none { (limits : TableLimits) (now : ℕ) (arrival : Arrival C) (buffers : List (Buffer C))
-        → NoneIsWhole buffers → answer limits now arrival buffers ≢ Whole → NoneIsWhole (after limits now arrival buffers) }
+        → NoneIsWhole buffers → answer limits now arrival buffers ≢ Whole
+        → NoneIsWhole (after limits now arrival buffers) }
     ensures taken_out { (limits : TableLimits) (now : ℕ) (arrival : Arrival C) (buffers : List (Buffer C))
-        → NoneIsWhole buffers → answer limits now arrival buffers ≡ Whole → NoneIsWhole (without arrival.key (after limits now arrival buffers)) }
+        → NoneIsWhole buffers → answer limits now arrival buffers ≡ Whole
+        → NoneIsWhole (without arrival.key (after limits now arrival buffers)) }
     ensures undone { (limits : TableLimits) (now : ℕ) (arrival : Arrival C) (buffers : List (Buffer C))
-        → NoneIsWhole buffers → answer limits now arrival buffers ≡ Whole → NoneIsWhole (undone arrival.key (after limits now arrival buffers)) }
-    ensures expired { (ended : Option (Buffer C)) (buffers : List (Buffer C)) → NoneIsWhole buffers → NoneIsWhole (without_due ended buffers) }
+        → NoneIsWhole buffers → answer limits now arrival buffers ≡ Whole
+        → NoneIsWhole (undone arrival.key (after limits now arrival buffers)) }
+    ensures expired { (ended : Option (Buffer C)) (buffers : List (Buffer C)) → NoneIsWhole buffers
+        → NoneIsWhole (without_due ended buffers) }
 {}
 
 /// Taking the last segment of a buffer out again leaves the buffers as they were before it was kept.
@@ -103,10 +110,13 @@ pub fn undoing_gives_back<C>()
 pub fn the_due_buffer_is_the_soonest<C>()
     ensures due { (now : ℕ) (buffers : List (Buffer C)) (ended : Buffer C) → due now buffers ≡ Some ended
         → IsDue now buffers ended }
-    ensures none { (now : ℕ) (buffers : List (Buffer C)) → (due now buffers ≡ None) ↔ All (λ buffer. now < buffer.deadline) buffers }
-    ensures kept { (limits : TableLimits) (now : ℕ) (arrival : Arrival C) (buffers : List (Buffer C)) → 1 ≤ limits.hold → 1 ≤ arrival.lifetime
+    ensures none { (now : ℕ) (buffers : List (Buffer C))
+        → (due now buffers ≡ None) ↔ All (λ buffer. now < buffer.deadline) buffers }
+    ensures kept { (limits : TableLimits) (now : ℕ) (arrival : Arrival C) (buffers : List (Buffer C)) → 1 ≤ limits.hold
+        → 1 ≤ arrival.lifetime
         → due now buffers ≡ None → due now (after limits now arrival buffers) ≡ None }
-    ensures taken_out { (now : ℕ) (key : Key) (buffers : List (Buffer C)) → due now buffers ≡ None → due now (without key buffers) ≡ None }
+    ensures taken_out { (now : ℕ) (key : Key) (buffers : List (Buffer C)) → due now buffers ≡ None
+        → due now (without key buffers) ≡ None }
 {}
 
 /// What segments carry changes nothing of how they are kept, taken out and joined: a function over what they carry goes

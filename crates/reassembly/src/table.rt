@@ -262,12 +262,14 @@ impl Table {
         requires moment { now < 2 ^ 62 }
         requires offered { MayCome segment.now }
         requires place { place ≡ place_of segment.now.key self.old.openings }
-        requires room { openings_of segment.now.key self.old.openings ≡ 0 → length self.old.openings < self.old.limits.slots }
+        requires room { openings_of segment.now.key self.old.openings ≡ 0
+            → length self.old.openings < self.old.limits.slots }
         requires same_unit { (slot : ℕ) (opening : Opening) → place_of segment.now.key self.old.openings ≡ Some slot
             → slice_get self.old.openings slot ≡ Some opening → opening.shape ≡ segment.now.shape }
         ensures opened { (slot : ℕ) × (self.new ≡ with_opening now segment.now slot self.old) }
         ensures is_at { IsAt self.new result segment.now.key }
-        ensures shaped { (opening : Opening) → slice_get self.new.openings result ≡ Some opening → opening.shape ≡ segment.now.shape }
+        ensures shaped { (opening : Opening) → slice_get self.new.openings result ≡ Some opening
+            → opening.shape ≡ segment.now.shape }
         ensures distinct { AllByRecursion (λ opening. openings_of opening.key self.old.openings ≡ 1) self.old.openings }
         ensures owned { AllByRecursion (λ other. openings_of other.key self.old.openings ≡ 1) self.old.segments }
     {

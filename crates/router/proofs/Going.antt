@@ -2,7 +2,7 @@
 use Rattle.std.proofs.Common.{◌≡◌, ◌∙◌, refl, sym, ap, subst, ℕ, ◌+◌, ◌-◌, ◌≤◌, Bool, true, false, Option, None, Some, Ok, Err, inr, List, [], ◌∷◌, ◌++◌, map, length, take, drop, if◌then◌else◌, arith, length-append, append_assoc}
 use Rattle.std.specs.Prelude.{Result, ◌&&◌, not, is_some, nat_le, slice_get}
 use Rattle.std.proofs.Math.Seq.{drop-append_seam, take-append_seam}
-use Rattle.clnp_machine.specs.EsisTables.declared.fact.Place.{Place}
+use Rattle.clnp_machine.specs.EsisTables.declared.fact.Neighbour.{Neighbour}
 use Rattle.clnp_machine.specs.ClnpOptions.Reasons.{reason_code}
 use Rattle.clnp_machine.specs.ClnpOptions.declared.reasons.Reason.TheVariants.{LifetimeExpiredInTransit, PathNotAcceptable, SegmentationNotPermitted}
 use Rattle.clnp_machine.specs.ClnpOptions.Edits.{is_complete, target_of}
@@ -18,26 +18,24 @@ use Rattle.clnp_machine.specs.Segmenter.Cut.{Piece, given}
 use Rattle.clnp_machine.specs.ClnpPlan.Configuration.{IsPort}
 use Rattle.clnp_machine.specs.ClnpPlan.declared.config.PortConfig.{PortConfig}
 use Rattle.clnp_machine.specs.Content.{Labelled}
-use Rattle.clnp_machine.specs.Given.{GiveAllFor, IsSentOnFor}
-use Rattle.clnp_machine.specs.Step as machine
+use Rattle.clnp_machine.specs.Given.{GiveAll, IsSentOnFor}
 use Rattle.clnp_machine.specs.Step.{discards, ends_at, forwarded, goes_on, goes_on_by, goes_on_way, goes_on_with, hop_by, is_named, loss_at, no_way_to, options_behind, pieces_go_on, towards, transmissions, way_of}
+use Rattle.clnp_machine.specs.declared.way.Hop.{Hop}
+use Rattle.clnp_machine.specs.declared.way.Way.{Way}
 use Rattle.clnp_machine.specs.System.{Effect, SystemState, Transmits}
 use Rattle.clnp_machine.specs.Unit.{IsCarriable, Packet, cut, value_of}
 use Rattle.clnp_machine.proofs.Pieces.{AreBoth, AreThese, IsThis, cut_both}
-use Rattle.system_entity.specs.LocalEntity.Sending.{machine_hop, piece_frame, transmission}
-use Rattle.system_entity.specs.LocalEntity.declared.sending.Hop.{Hop}
+use Rattle.system_entity.specs.LocalEntity.Sending.{piece_frame, transmission}
 use Rattle.system_entity.proofs.LocalEntity.Sent.{CutsSay, IsAnswer, piece_octets}
 use Rattle.system_entity.specs.Comes.{HasValue}
 use Rattle.system_entity.specs.declared.passing.Passing.{Passing}
-use Rattle.system_entity.specs.declared.way.Way.{Way}
-use Rattle.system_entity.specs.Ways.{machine_way, way_option}
-use Rattle.router.specs.Onward.{GoesOn, life_left, way_hop}
-pub use Rattle.clnp_machine.proofs.Given.{appends_for, appends_for_both, appends_none}
+use Rattle.router.specs.Onward.{GoesOn, life_left}
+pub use Rattle.clnp_machine.proofs.Given.{appends_whatever_came, appends_both, appends_none}
 
 -- ---- the way, and its port
 
 -- the source route is complete and names another system here
-pub off_route : (s : SystemState) (came : Place) (p : Packet) (following : List ℕ) (test : Bool) → test ≡ true
+pub off_route : (s : SystemState) (came : Neighbour) (p : Packet) (following : List ℕ) (test : Bool) → test ≡ true
     → test ≡ (is_complete p.options && not (is_named s (target_of p.options)))
     → goes_on s came p following ≡ discards s p following (reason_code PathNotAcceptable)
 off_route s came p following test off is =
@@ -45,7 +43,7 @@ off_route s came p following test off is =
     else goes_on_with s came p following (options_behind s p.options)) (sym is ∙ off)
 
 -- or it goes on with the options behind the router
-pub on_route : (s : SystemState) (came : Place) (p : Packet) (following : List ℕ) (test : Bool) → test ≡ false
+pub on_route : (s : SystemState) (came : Neighbour) (p : Packet) (following : List ℕ) (test : Bool) → test ≡ false
     → test ≡ (is_complete p.options && not (is_named s (target_of p.options)))
     → goes_on_with s came p following (options_behind s p.options) ≡ goes_on s came p following
 on_route s came p following test on is =
@@ -57,33 +55,33 @@ pub whither_is : (p : Packet) (options : List Parameter) (passing : Passing) →
     → towards passing.to (target_of options) ≡ towards p.unit.destination (target_of options)
 whither_is p options passing has = ap (λ (to : List ℕ). towards to (target_of options)) (sym has.destination)
 
-module _ (s : SystemState) (came : Place) (p : Packet) (following : List ℕ) (options : List Parameter) (to : List ℕ)
+module _ (s : SystemState) (came : Neighbour) (p : Packet) (following : List ℕ) (options : List Parameter) (to : List ℕ)
     (towards_it : to ≡ towards p.unit.destination (target_of options)) where
   abbrev whither : List ℕ
   whither = towards p.unit.destination (target_of options)
 
-  abbrev on_its_way : Option machine.Way → Effect
+  abbrev on_its_way : Option Way → Effect
   on_its_way way = goes_on_way s came p following options way
 
   -- the way that the code finds
-  way_is : (found : Option Way) → way_option found ≡ way_of s to → on_its_way (way_option found) ≡ goes_on_with s came p following options
+  way_is : (found : Option Way) → found ≡ way_of s to → on_its_way found ≡ goes_on_with s came p following options
   way_is found is = ap on_its_way (is ∙ ap (λ (there : List ℕ). way_of s there) towards_it)
 
   -- no way is known
-  pub no_way : (found : Option Way) (reason : ℕ) → found ≡ None → way_option found ≡ way_of s to → reason ≡ no_way_to (target_of options)
+  pub no_way : (found : Option Way) (reason : ℕ) → found ≡ None → found ≡ way_of s to → reason ≡ no_way_to (target_of options)
       → goes_on_with s came p following options ≡ discards s p following reason
   no_way found reason none is why =
-      sym (way_is found is) ∙ ap (λ (o : Option Way). on_its_way (way_option o)) none
+      sym (way_is found is) ∙ ap (λ (o : Option Way). on_its_way o) none
       ∙ ap (λ (n : ℕ). discards s p following n) (sym why)
 
-  module _ (found : Option Way) (way : Way) (some : found ≡ Some way) (is : way_option found ≡ way_of s to) where
+  module _ (found : Option Way) (way : Way) (some : found ≡ Some way) (is : found ≡ way_of s to) where
     abbrev by_test : Bool → Effect
     by_test off =
         if off then discards s p following (reason_code PathNotAcceptable)
-        else goes_on_by s came p following options (machine_way way) (slice_get s.attached.ports way.port)
+        else goes_on_by s came p following options way (slice_get s.attached.ports way.neighbour.port)
 
     by_way : by_test (is_complete options && not (ends_at whither way.title)) ≡ goes_on_with s came p following options
-    by_way = ap (λ (o : Option Way). on_its_way (way_option o)) (sym some) ∙ way_is found is
+    by_way = ap (λ (o : Option Way). on_its_way o) (sym some) ∙ way_is found is
 
     module _ (barred : Bool) (decided : barred ≡ (is_complete options && not (ends_at to way.title))) where
       tested : barred ≡ (is_complete options && not (ends_at whither way.title))
@@ -95,16 +93,12 @@ module _ (s : SystemState) (came : Place) (p : Packet) (following : List ℕ) (o
 
       -- it is by this port, if it is there
       pub by_its_port : (ports : List PortConfig) (port : Option PortConfig) → barred ≡ false → ports ≡ s.attached.ports
-          → slice_get ports way.port ≡ port
-          → goes_on_by s came p following options (machine_way way) port ≡ goes_on_with s came p following options
+          → slice_get ports way.neighbour.port ≡ port
+          → goes_on_by s came p following options way port ≡ goes_on_with s came p following options
       by_its_port ports port on same at =
-          ap (λ (o : Option PortConfig). goes_on_by s came p following options (machine_way way) o) (sym at)
-          ∙ ap (λ (ps : List PortConfig). goes_on_by s came p following options (machine_way way) (slice_get ps way.port)) same
+          ap (λ (o : Option PortConfig). goes_on_by s came p following options way o) (sym at)
+          ∙ ap (λ (ps : List PortConfig). goes_on_by s came p following options way (slice_get ps way.neighbour.port)) same
           ∙ ap by_test (sym on ∙ tested) ∙ by_way
-
--- the hop of the code is that of the way
-pub hop_is : (hop : Hop) (way : Way) → machine_hop hop ≡ hop_by (machine_way way) → hop ≡ way_hop way
-hop_is hop way e = ap (λ (h : machine.Hop). let r : Hop = record { port = h.port; target = h.target } in r) e
 
 -- ---- the lifetime
 
@@ -134,38 +128,38 @@ module _ (came : Packet) (following : List ℕ) (q : Packet) (unit : q.unit ≡ 
       }
 
   pieces_go : (moment : ℕ) (pieces : List Piece) (packets : List Packet) → AreThese q pieces packets
-      → GiveAllFor moment (Labelled came following) (map (transmission true hop body) (map given pieces))
+      → GiveAll moment (Some (Labelled came following)) (map (transmission true hop body) (map given pieces))
       (map (λ packet. Transmits hop.port hop.target packet) packets)
   pieces_go moment [] [] these = tt
   pieces_go moment (piece ∷ others) (packet ∷ packets) these = (inr (piece_goes piece packet these.0), pieces_go moment others packets these.1)
   pieces_go moment [] (packet ∷ packets) these = absurd these
   pieces_go moment (piece ∷ others) [] these = absurd these
 
-module _ (s : SystemState) (came : Place) (p : Packet) (following : List ℕ) (way : Way) (towards_title : Bool)
+module _ (s : SystemState) (came : Neighbour) (p : Packet) (following : List ℕ) (way : Way) (towards_title : Bool)
     (told : towards_title ≡ is_some (target_of (options_behind s p.options))) (q : Packet) (unit : q.unit ≡ p.unit)
     (same : (value_of q).body ≡ (value_of p).body) (octets : ℕ) (result : Result (List Cut) NotPermitted) where
   both_go : (pieces : Option (List Piece)) (packets : Option (List Packet)) (cuts : List Cut) → AreBoth q pieces packets → IsAnswer octets pieces result
       → result ≡ Ok cuts → GoesOn (record { way = way; towards_title = towards_title; cuts = cuts }) s came p following
-      (pieces_go_on s came p following (options_behind s p.options) (machine_way way) packets)
+      (pieces_go_on s came p following (options_behind s p.options) way packets)
   both_go None None cuts both answer ok = absurd (cc)
   both_go (Some pieces) (Some packets) cuts both answer ok =
       let are : map given pieces ≡ cuts = cc in
       record {
         after = refl;
-        pieces = transmissions (hop_by (machine_way way)) (Some packets);
+        pieces = transmissions (hop_by way) (Some packets);
         outputs = refl;
         towards_title = told;
         given = λ body shown count.
-            subst (λ (list : List Cut). GiveAllFor s.moment (Labelled p following) (map (transmission true (way_hop way) body) list)
-            (transmissions (hop_by (machine_way way)) (Some packets))) are
-            (pieces_go p following q unit body (way_hop way) (shown ∙ sym same) count s.moment pieces packets both);
+            subst (λ (list : List Cut). GiveAll s.moment (Some (Labelled p following)) (map (transmission true (hop_by way) body) list)
+            (transmissions (hop_by way) (Some packets))) are
+            (pieces_go p following q unit body (hop_by way) (shown ∙ sym same) count s.moment pieces packets both);
       }
   both_go None (Some packets) cuts both answer ok = absurd both
   both_go (Some pieces) None cuts both answer ok = absurd both
 
   none_goes : (pieces : Option (List Piece)) (packets : Option (List Packet)) (refused : NotPermitted) → AreBoth q pieces packets
       → IsAnswer octets pieces result → result ≡ Err refused
-      → pieces_go_on s came p following (options_behind s p.options) (machine_way way) packets
+      → pieces_go_on s came p following (options_behind s p.options) way packets
       ≡ discards s p following (reason_code SegmentationNotPermitted)
   none_goes None None refused both answer err = refl
   none_goes (Some pieces) (Some packets) refused both answer err = absurd (cc)
@@ -174,7 +168,7 @@ module _ (s : SystemState) (came : Place) (p : Packet) (following : List ℕ) (w
 
 -- ---- what comes of it by a port
 
-module _ (s : SystemState) (came : Place) (p : Packet) (following : List ℕ) (way : Way) (port : PortConfig) where
+module _ (s : SystemState) (came : Neighbour) (p : Packet) (following : List ℕ) (way : Way) (port : PortConfig) where
   abbrev behind : List Parameter
   behind = options_behind s p.options
 
@@ -182,12 +176,12 @@ module _ (s : SystemState) (came : Place) (p : Packet) (following : List ℕ) (w
   lowered = forwarded p (loss_at port) behind
 
   abbrev outcome : Effect
-  outcome = goes_on_by s came p following behind (machine_way way) (Some port)
+  outcome = goes_on_by s came p following behind way (Some port)
 
   abbrev by_life : Bool → Effect
   by_life over =
       if over then discards s p following (reason_code LifetimeExpiredInTransit)
-      else pieces_go_on s came p following behind (machine_way way) (cut lowered port.mtu)
+      else pieces_go_on s came p following behind way (cut lowered port.mtu)
 
   -- its lifetime ends
   pub ends : (passing : Passing) (left : Option ℕ) → HasValue passing (value_of p) → left ≡ life_left passing.life port → left ≡ None
@@ -205,7 +199,7 @@ module _ (s : SystemState) (came : Place) (p : Packet) (following : List ℕ) (w
     lives : (nat_le passing.life (loss_at port) ≡ false) × (passing.life - loss_at port ≡ life)
     lives = left_is (nat_le passing.life (loss_at port)) (passing.life - loss_at port) life (sym told ∙ some)
 
-    alive : outcome ≡ pieces_go_on s came p following behind (machine_way way) (cut lowered port.mtu)
+    alive : outcome ≡ pieces_go_on s came p following behind way (cut lowered port.mtu)
     alive = ap (λ (n : ℕ). by_life (nat_le n (loss_at port))) has.lifetime ∙ ap by_life lives.0
 
     spells : SpellsHeader (value_of lowered) head

@@ -2,7 +2,7 @@
 use Rattle.std.proofs.Common.{◌≡◌, ◌∙◌, sym, ap, ℕ, Bool, false, List, ◌++◌, if◌then◌else◌}
 use Rattle.std.specs.Prelude.{◌==◌}
 use Rattle.std.proofs.lemmas.List.{append-nil}
-use Rattle.clnp_machine.specs.EsisTables.declared.fact.Place.{Place}
+use Rattle.clnp_machine.specs.EsisTables.declared.fact.Neighbour.{Neighbour}
 use Rattle.clnp_machine.specs.ClnpOptions.Reasons.{reason_code}
 use Rattle.clnp_machine.specs.ClnpOptions.declared.reasons.Reason.TheVariants.{LifetimeExpiredInTransit}
 use Rattle.clnp_machine.specs.ClnpPlan.Configuration.{SystemConfiguration}
@@ -17,10 +17,10 @@ use Rattle.system_entity.proofs.Receipt.{responds_stays, router_is_quiet}
 
 -- it is all that is done
 
-abbrev pub onward : SystemState → (came : Place) → Packet → List ℕ → Effect
+abbrev pub onward : SystemState → (came : Neighbour) → Packet → List ℕ → Effect
 onward s came p following = goes_on s came p following
 
-forwards : (s : SystemState) (came : Place) (p : Packet) (following : List ℕ) → s.configuration.role ≡ Router → (p.lifetime == 0) ≡ false
+forwards : (s : SystemState) (came : Neighbour) (p : Packet) (following : List ℕ) → s.configuration.role ≡ Router → (p.lifetime == 0) ≡ false
     → is_own s p.unit.destination ≡ false → packet_comes s came p following ≡ onward s came p following
 forwards s came p following role alive other =
     ap (λ (b : Bool). if b then discards s p following (reason_code LifetimeExpiredInTransit)
@@ -28,21 +28,21 @@ forwards s came p following role alive other =
     ∙ ap (λ (b : Bool). if b then effect_of (receive s p following) else passes_by s.configuration.role s came p following) other
     ∙ ap (λ (r : Role). passes_by r s came p following) role
 
-pub passed_after : (s : SystemState) (place : Place) (group : Bool) (p : Packet) (following : List ℕ) → s.configuration.role ≡ Router
+pub passed_after : (s : SystemState) (neighbour : Neighbour) (group : Bool) (p : Packet) (following : List ℕ) → s.configuration.role ≡ Router
     → (p.lifetime == 0) ≡ false → is_own s p.unit.destination ≡ false
-    → (onward s place p following).after ≡ (content_comes s place group (Labelled p following)).after
-passed_after s place group p following role alive other =
-    sym (responds_stays (onward s place p following).after place group p)
-    ∙ ap (λ (e : Effect). (responds e.after place group p).after) (sym (forwards s place p following role alive other))
+    → (onward s neighbour p following).after ≡ (content_comes s neighbour group (Labelled p following)).after
+passed_after s neighbour group p following role alive other =
+    sym (responds_stays (onward s neighbour p following).after neighbour group p)
+    ∙ ap (λ (e : Effect). (responds e.after neighbour group p).after) (sym (forwards s neighbour p following role alive other))
 
-pub passed_outputs : (s : SystemState) (place : Place) (group : Bool) (p : Packet) (following : List ℕ) → s.configuration.role ≡ Router
+pub passed_outputs : (s : SystemState) (neighbour : Neighbour) (group : Bool) (p : Packet) (following : List ℕ) → s.configuration.role ≡ Router
     → (p.lifetime == 0) ≡ false → is_own s p.unit.destination ≡ false
-    → (packet_comes s place p following).after.configuration ≡ s.configuration
-    → (onward s place p following).outputs ≡ (content_comes s place group (Labelled p following)).outputs
-passed_outputs s place group p following role alive other itself =
-    let e : Effect = onward s place p following in
+    → (packet_comes s neighbour p following).after.configuration ≡ s.configuration
+    → (onward s neighbour p following).outputs ≡ (content_comes s neighbour group (Labelled p following)).outputs
+passed_outputs s neighbour group p following role alive other itself =
+    let e : Effect = onward s neighbour p following in
     let still : e.after.configuration.role ≡ Router =
-    ap (λ (d : Effect). d.after.configuration.role) (sym (forwards s place p following role alive other))
+    ap (λ (d : Effect). d.after.configuration.role) (sym (forwards s neighbour p following role alive other))
     ∙ ap (λ (c : SystemConfiguration). c.role) itself ∙ role in
-    sym (append-nil e.outputs) ∙ ap (λ (answer : Effect). e.outputs ++ answer.outputs) (sym (router_is_quiet e.after place group p still))
-    ∙ ap (λ (d : Effect). d.outputs ++ (responds d.after place group p).outputs) (sym (forwards s place p following role alive other))
+    sym (append-nil e.outputs) ∙ ap (λ (answer : Effect). e.outputs ++ answer.outputs) (sym (router_is_quiet e.after neighbour group p still))
+    ∙ ap (λ (d : Effect). d.outputs ++ (responds d.after neighbour group p).outputs) (sym (forwards s neighbour p following role alive other))

@@ -6,8 +6,7 @@ ghost use Rattle.clnp_machine.specs.Step.{goes_on_by, options_behind};
 ghost use Rattle.clnp_machine.specs.PduHeader.Headers.{SpellsHeader, with_options};
 ghost use Rattle.clnp_machine.specs.System.{SystemState};
 ghost use Rattle.clnp_machine.specs.Unit.{IsCarriable, Packet, value_of};
-ghost use Rattle.system_entity.specs.Ways.{machine_way};
-ghost use Rattle.clnp_machine.specs.EsisTables.declared.fact.Place.{Place};
+ghost use Rattle.clnp_machine.specs.EsisTables.declared.fact.Neighbour.{Neighbour};
 ghost use Rattle.clnp_machine.specs.PduHeader.Value.{PduValue};
 ghost use Rattle.clnp_machine.specs.Segmenter.Left.{IsCutOf};
 ghost use Rattle.system_entity.specs.Comes.{HasValue};
@@ -18,7 +17,8 @@ use clnp_machine::clnp_plan::PortConfig;
 use clnp_machine::laws;
 use clnp_machine::pdu_header::Header;
 use clnp_machine::segmenter::{Cuts, NotPermitted};
-use system_entity::{Passing, Way};
+use clnp_machine::way::Way;
+use system_entity::Passing;
 
 /// The pieces of a PDU, the way that they go, and whether it is the way to a title of a source route.
 #[derive(Drop)]
@@ -39,11 +39,11 @@ pub(crate) fn by_port(
     requires port { IsPort port.now }
     requires pdu { (v : PduValue) × HasValue passing.now v }
     requires head { (v : PduValue) × SpellsHeader v head × (length v.body ≡ passing.now.len) }
-    ensures goes { (s : SystemState) (came : Place) (p : Packet) (following : List ℕ) → IsCarriable p
+    ensures goes { (s : SystemState) (came : Neighbour) (p : Packet) (following : List ℕ) → IsCarriable p
         → HasValue passing.now (value_of p)
         → SpellsHeader (with_options (options_behind s p.options) (value_of p)) head
         → ComesTo result s came p following
-        (goes_on_by s came p following (options_behind s p.options) (machine_way way) (Some port.now)) }
+        (goes_on_by s came p following (options_behind s p.options) way (Some port.now)) }
     ensures each { IfOk result (λ onward. AllByRecursion (IsCutOf passing.now.len) onward.cuts) }
 {
     let Some(life) = life_left(passing.life, port) else {

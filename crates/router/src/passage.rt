@@ -13,7 +13,7 @@ ghost use Rattle.clnp_machine.specs.PduHeader.Value.{PduValue};
 use clnp_machine::clnp_options::Reason;
 use clnp_machine::nsap::Address;
 use clnp_machine::pdu_header::Header;
-use system_entity::Way;
+use clnp_machine::way::Way;
 
 /// No source route has so many titles, since its pointer is an octet.
 const MOST_TITLES: u8 = 255;
@@ -57,7 +57,8 @@ pub(crate) fn no_way(head: &Header) -> Reason
 /// The header of a PDU behind the router of a title, which may be congested.
 pub(crate) fn behind(head: &Header, title: &Address, congested: bool) -> Header
     requires { IsHeader head.now }
-    ensures { (s : SystemState) (v : PduValue) → title_of s ≡ title.now → s.congested ≡ congested → SpellsHeader v head.now
+    ensures { (s : SystemState) (v : PduValue) → title_of s ≡ title.now → s.congested ≡ congested
+        → SpellsHeader v head.now
         → SpellsHeader (with_options (options_behind s v.options) v) result }
 {
     let mut head = *head;

@@ -7,7 +7,7 @@ ghost use Rattle.clnp_machine.specs.ClnpPlan.Configuration.{IsPort, IsWithin};
 ghost use Rattle.clnp_machine.specs.ClnpPlan.declared.ask.SendRefusal.TheVariants.{NoMemory as WantsMemory};
 ghost use Rattle.clnp_machine.specs.ClnpPlan.declared.config.Role.TheVariants.{Router as IsRouter};
 ghost use Rattle.clnp_machine.specs.Content.{Content, IsCarried, Labelled, frame_of};
-ghost use Rattle.clnp_machine.specs.Given.{Appends, AppendsFor};
+ghost use Rattle.clnp_machine.specs.Given.{Appends};
 ghost use Rattle.clnp_machine.specs.Forwarding.Distinct.{has_prefix};
 ghost use Rattle.clnp_machine.specs.Local.{refusal, request_unit};
 ghost use Rattle.clnp_machine.specs.Esis.{title_of};
@@ -21,7 +21,6 @@ ghost use Rattle.clnp_machine.specs.PduHeader.Value.{PduValue};
 ghost use Rattle.clnp_machine.specs.Segmenter.Left.{IsCutOf};
 ghost use Rattle.system_entity.specs.LocalEntity.Local.{IsWhy};
 ghost use Rattle.system_entity.specs.Comes.{HasValue, IsAtFront};
-ghost use Rattle.system_entity.specs.Ways.{machine_way, way_option};
 ghost use Rattle.router.specs.Onward.{ComesTo};
 ghost use Rattle.system_entity.specs.Steps.{Carries, IsSpentIn, MayCome, TakesStep, input_with};
 ghost use Rattle.router.specs.Stands.{IsLeftBy, Stands};
@@ -33,14 +32,15 @@ use clnp_machine::clnp_base::NoMemory;
 use clnp_machine::clnp_options::Reason;
 use clnp_machine::clnp_plan::{Limits, Output, PortConfig, SendRefusal, SystemConfig};
 use clnp_machine::clnp_views::Frame;
-use clnp_machine::esis_tables::Place;
+use clnp_machine::esis_tables::Neighbour;
 use clnp_machine::forwarding::Route;
 use clnp_machine::laws;
 use clnp_machine::nsap::{Address, Prefix, Snpa};
 use clnp_machine::pdu_header::Header;
+use clnp_machine::way::Way;
 use std::alloc::Global;
 use std::marker::Model;
-use system_entity::{Arrival, Input, Passing, SystemEntity, Way};
+use system_entity::{Arrival, Input, Passing, SystemEntity};
 
 /// A router. Its moment is that of its last `tick`, or of its start.
 ///
@@ -167,10 +167,10 @@ impl Router {
         ensures refused { self.old.entity.spent ≡ true → IsErr result }
     {
         laws::deeds_are_of_their_moment();
-        let place = Place { port, snpa: from };
-        match self.entity.frame(alloc, place, group, frame, out)? {
+        let neighbour = Neighbour { port, snpa: from };
+        match self.entity.frame(alloc, neighbour, group, frame, out)? {
             Arrival::Done => Ok(()),
-            Arrival::Passes(passing) => self.forward(alloc, &place, &passing, frame, out),
+            Arrival::Passes(passing) => self.forward(alloc, &neighbour, &passing, frame, out),
         }
     }
 
@@ -196,7 +196,8 @@ impl Router {
             (λ e. IsWhy e (refusal s (request_unit s from to body.now))) }
         ensures stands { OnOk result ((s : SystemState) → Stands self.old s → Stands self.new (step s (AsksForEcho from to body.now)).after) }
         ensures outputs { OnOk result ((s : SystemState) → Stands self.old s
-            → Appends self.old.entity.moment out.old.items out.new.items (step s (AsksForEcho from to body.now)).outputs) }
+            → Appends self.old.entity.moment None out.old.items out.new.items
+            (step s (AsksForEcho from to body.now)).outputs) }
         ensures none { OnErr result (out.new.items ≡ out.old.items) }
         ensures left { IfErr result (λ e. IsLeftBy e self.old self.new) }
         ensures refused { self.old.entity.spent ≡ true → result ≡ Err WantsMemory }
@@ -211,7 +212,7 @@ impl Router {
     fn forward(
         &mut self,
         alloc: Global,
-        came: &Place,
+        came: &Neighbour,
         passing: &Passing,
         frame: &Frame,
         out: &mut Vec<Output>,
@@ -223,7 +224,7 @@ impl Router {
             → Stands self.new (goes_on s came.now p following).after) }
         ensures outputs { OnOk result ((s : SystemState) (p : Packet) (following : List ℕ) → Stands self.old s → IsCarriable p
             → HasValue passing.now (value_of p) → frame.now ≡ wire p ++ following
-            → AppendsFor s.moment (Labelled p following) out.old.items out.new.items
+            → Appends s.moment (Some (Labelled p following)) out.old.items out.new.items
             (goes_on s came.now p following).outputs) }
         ensures none { OnErr result (out.new.items ≡ out.old.items) }
         ensures spent { OnErr result (self.new.entity.spent ≡ true) }
@@ -257,7 +258,8 @@ impl Router {
     /// How a PDU for another address goes on, or for which reason it is discarded.
     fn onward(&self, passing: &Passing) -> Result<Onward, Reason>
         requires { (v : PduValue) × HasValue passing.now v }
-        ensures goes { (s : SystemState) (came : Place) (p : Packet) (following : List ℕ) → Stands self.now s → IsCarriable p
+        ensures goes { (s : SystemState) (came : Neighbour) (p : Packet) (following : List ℕ) → Stands self.now s
+            → IsCarriable p
             → HasValue passing.now (value_of p)
             → ComesTo result s came p following (goes_on s came p following) }
         ensures each { IfOk result (λ onward. AllByRecursion (IsCutOf passing.now.len) onward.cuts) }
@@ -274,7 +276,8 @@ impl Router {
     fn onward_with(&self, passing: &Passing, head: Header) -> Result<Onward, Reason>
         requires pdu { (v : PduValue) × HasValue passing.now v }
         requires head { (v : PduValue) × SpellsHeader v head × (length v.body ≡ passing.now.len) }
-        ensures goes { (s : SystemState) (came : Place) (p : Packet) (following : List ℕ) → Stands self.now s → IsCarriable p
+        ensures goes { (s : SystemState) (came : Neighbour) (p : Packet) (following : List ℕ) → Stands self.now s
+            → IsCarriable p
             → HasValue passing.now (value_of p)
             → SpellsHeader (with_options (options_behind s p.options) (value_of p)) head
             → ComesTo result s came p following (goes_on_with s came p following (options_behind s p.options)) }
@@ -287,7 +290,7 @@ impl Router {
         if is_barred(&head, &way, &to) {
             return Err(Reason::PathNotAcceptable);
         }
-        let Some(port) = self.entity.ports().get(usize::from(way.port)) else {
+        let Some(port) = self.entity.ports().get(usize::from(way.neighbour.port)) else {
             return Err(Reason::DestinationUnknown);
         };
         by_port(passing, head, way, port)
@@ -307,7 +310,7 @@ impl Router {
     /// it came, where its source is known to be (ISO 9542, section 6.8).
     fn redirect(
         &mut self,
-        came: &Place,
+        came: &Neighbour,
         passing: &Passing,
         towards_title: bool,
         way: &Way,
@@ -315,7 +318,7 @@ impl Router {
     ) -> Result<(), NoMemory>
         ensures outputs { OnOk result ((s : SystemState) (p : Packet) (options : List Parameter) → Stands self.old s
             → HasValue passing.now (value_of p) → towards_title ≡ is_some (target_of options)
-            → Appends s.moment out.old.items out.new.items (redirects s came.now p options (machine_way way.now))) }
+            → Appends s.moment None out.old.items out.new.items (redirects s came.now p options way.now)) }
         ensures same { OnOk result (self.new ≡ self.old) }
         ensures none { OnErr result (out.new.items ≡ out.old.items) }
         ensures spent { OnErr result (self.new.entity.spent ≡ true) }
@@ -324,8 +327,8 @@ impl Router {
         ensures config { self.new.entity.local.configuration ≡ self.old.entity.local.configuration }
     {
         if self.is_redirected(came, passing, towards_title, way) {
-            let place = *came;
-            return self.entity.redirect(place, &passing.to, way, out);
+            let neighbour = *came;
+            return self.entity.redirect(neighbour, &passing.to, way, out);
         }
         Ok(())
     }
@@ -333,10 +336,17 @@ impl Router {
     /// Whether the source of a PDU that goes on is told of the way: redirects hold for a time, the PDU begins its unit, it goes
     /// on by the port by which it came, not towards a title of a source route, and its source is known to be at the place from
     /// which it came.
-    fn is_redirected(&self, came: &Place, passing: &Passing, towards_title: bool, way: &Way) -> bool
-        ensures { (s : SystemState) (p : Packet) (options : List Parameter) → Stands self.now s → HasValue passing.now (value_of p)
+    fn is_redirected(
+        &self,
+        came: &Neighbour,
+        passing: &Passing,
+        towards_title: bool,
+        way: &Way,
+    ) -> bool
+        ensures { (s : SystemState) (p : Packet) (options : List Parameter) → Stands self.now s
+            → HasValue passing.now (value_of p)
             → towards_title ≡ is_some (target_of options)
-            → result ≡ is_redirected s came.now p options (machine_way way.now) }
+            → result ≡ is_redirected s came.now p options way.now }
     {
         let holding = self.entity.config().settings().rhold;
         if !may_be_redirected(holding, came, passing, towards_title, way) {
@@ -384,7 +394,8 @@ impl Router {
         requires there { port < length self.old.entity.ports }
         requires transit { 1 ≤ config.transit }
         requires mtu { 512 ≤ config.mtu }
-        ensures stands { (s : SystemState) → Stands self.old s → Stands self.new (step s (IsChanged (PortIsAt port config))).after }
+        ensures stands { (s : SystemState) → Stands self.old s
+            → Stands self.new (step s (IsChanged (PortIsAt port config))).after }
         ensures set { self.new.entity ≡ record self.old.entity {
           ports = slice_set self.old.entity.ports port config;
           esis = record self.old.entity.esis { next_hello = self.old.entity.moment };
@@ -401,7 +412,8 @@ impl Router {
     pub fn set_mtu(&mut self, port: u8, mtu: u16)
         requires there { port < length self.old.entity.ports }
         requires mtu { 512 ≤ mtu }
-        ensures stands { (s : SystemState) → Stands self.old s → Stands self.new (step s (IsChanged (PortTakes port mtu))).after }
+        ensures stands { (s : SystemState) → Stands self.old s
+            → Stands self.new (step s (IsChanged (PortTakes port mtu))).after }
         ensures set { self.new.entity ≡ record self.old.entity {
           ports = ports_taking port mtu (slice_get self.old.entity.ports port) self.old.entity.ports;
         } }
@@ -433,8 +445,10 @@ impl Router {
 
     /// The route of a prefix is gone from now on. Tells whether there was one.
     pub fn remove_route(&mut self, prefix: &Prefix) -> bool
-        ensures there { (s : SystemState) → Stands self.old s → result ≡ list_any (has_prefix prefix.now) s.attached.routes }
-        ensures stands { (s : SystemState) → Stands self.old s → Stands self.new (step s (IsChanged (RouteIsGone prefix.now))).after }
+        ensures there { (s : SystemState) → Stands self.old s
+            → result ≡ list_any (has_prefix prefix.now) s.attached.routes }
+        ensures stands { (s : SystemState) → Stands self.old s
+            → Stands self.new (step s (IsChanged (RouteIsGone prefix.now))).after }
         ensures rest { self.new.entity ≡ record self.old.entity { routes = self.new.entity.routes } }
         ensures spent { self.new.entity.spent ≡ self.old.entity.spent }
         ensures moment { self.new.entity.moment ≡ self.old.entity.moment }
@@ -462,7 +476,7 @@ impl Router {
     /// The way to an address: to the end system of this address, where it heard of it, else by the route with the most
     /// digits among those that cover the address (ISO/IEC 8473, section 6.5).
     pub fn next_hop(&self, to: &Address) -> Option<Way>
-        ensures { (s : SystemState) → Stands self.now s → way_option result ≡ way_of s to.now }
+        ensures { (s : SystemState) → Stands self.now s → result ≡ way_of s to.now }
     {
         self.entity.way(to)
     }

@@ -5,7 +5,7 @@ use Rattle.clnp_plan.specs.ClnpBase.Text.{words_of}
 use Rattle.scenario.specs.declared.counts.Counts.{Counts}
 use Rattle.scenario.specs.declared.event.Event.{Event}
 use Rattle.scenario.specs.declared.fault.ScenarioRefusal.{ScenarioRefusal}
-use Rattle.scenario.specs.declared.fault.ScenarioRefusal.TheVariants as refusal
+use Rattle.scenario.specs.declared.fault.ScenarioRefusal.TheVariants as scenario_refusal
 use Rattle.scenario.specs.declared.code.Code.{Code}
 use Rattle.scenario.specs.declared.code.Code.TheVariants as bad
 use Rattle.scenario.specs.Codes.{number_of}
@@ -42,8 +42,8 @@ module _ (read : Scene → Counts → List (List ℕ) → Result Event Code) whe
       → Refuses r (at_line n (read scene counts (words_of line)))
       → with_front front (events_from read scene n counts (line ∷ lines)) ≡ total → Refuses r total
   unfolding events_from
-  stops refusal.NoMemory front scene n counts line lines total kept other h so_far = tt
-  stops (refusal.BadLine l code) front scene n counts line lines total kept other h so_far =
+  stops scenario_refusal.NoMemory front scene n counts line lines total kept other h so_far = tt
+  stops (scenario_refusal.BadLine l code) front scene n counts line lines total kept other h so_far =
       let one : with_front front (events_from read scene n counts (line ∷ lines)) ≡ Err (record { line = l; code = code }) = rw (kept, other, h) refl in
       sym so_far ∙ one
 
@@ -59,8 +59,8 @@ module _ (read : Scene → Counts → List (List ℕ) → Result Event Code) whe
       → is_skipped line ≡ false → is_line_of (codes "end") (words_of line) ≡ true → Refuses r (nothing_after (n + 1) lines)
       → with_front front (events_from read scene n counts (line ∷ lines)) ≡ total → Refuses r total
   unfolding events_from
-  stops_after refusal.NoMemory front scene n counts line lines total kept last h so_far = tt
-  stops_after (refusal.BadLine l code) front scene n counts line lines total kept last h so_far =
+  stops_after scenario_refusal.NoMemory front scene n counts line lines total kept last h so_far = tt
+  stops_after (scenario_refusal.BadLine l code) front scene n counts line lines total kept last h so_far =
       let one : with_front front (events_from read scene n counts (line ∷ lines)) ≡ Err (record { line = l; code = code }) = rw (kept, last, h) refl in
       sym so_far ∙ one
 

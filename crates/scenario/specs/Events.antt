@@ -122,7 +122,8 @@ host_word names systems word = do
   Ok place
 
 -- `NAME FROM TO DATA` and wishes, behind `send`: a host sends
-unfoldable pub send_line : (names : List (List ℕ)) (systems : List SystemConfiguration) → List (List ℕ) → Result Event Code
+unfoldable pub send_line : (names : List (List ℕ)) (systems : List SystemConfiguration) → List (List ℕ)
+    → Result Event Code
 send_line names systems words = do
   w ← found (first_four words) bad.Syntax
   system ← host_word names systems w.0
@@ -197,7 +198,8 @@ on_word word =
     else Err bad.Syntax
 
 -- `NAME on` or `NAME off`, behind `congest`: a router is congested, or no longer
-unfoldable pub congest_line : (names : List (List ℕ)) (systems : List SystemConfiguration) → List (List ℕ) → Result Event Code
+unfoldable pub congest_line : (names : List (List ℕ)) (systems : List SystemConfiguration) → List (List ℕ)
+    → Result Event Code
 congest_line names systems words = do
   w ← found (two_words words) bad.Syntax
   system ← router_word names systems w.0

@@ -90,7 +90,8 @@ event_for (Some links) = live_event
 
 -- The event lines from number n on, each of which is read like this over what those before it leave, and `end`, where the events
 -- before them were counted.
-unfoldable pub events_from : (read : Scene → Counts → List (List ℕ) → Result Event Code) → Scene → ℕ → Counts → List (List ℕ) → Result (List Event) BadLine
+unfoldable pub events_from : (read : Scene → Counts → List (List ℕ) → Result Event Code) → Scene → ℕ → Counts
+    → List (List ℕ) → Result (List Event) BadLine
 events_from read scene n counts [] = Err (record { line = n; code = number_of bad.Syntax })
 events_from read scene n counts (line ∷ lines) =
     if is_skipped line then events_from read scene (n + 1) counts lines

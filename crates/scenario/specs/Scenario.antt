@@ -203,7 +203,8 @@ IsOfVersion1 _ = Unit {0}
 
 -- the system at a place has a port of this number
 abbrev pub HasNumber : List SystemConfiguration → (place number : ℕ) → Type 0
-HasNumber systems place number = (system : SystemConfiguration) → slice_get systems place ≡ Some system → number < length system.ports
+HasNumber systems place number = (system : SystemConfiguration) → slice_get systems place ≡ Some system
+    → number < length system.ports
 
 -- A route that is set leads out of one of the router's ports to a system at addresses.
 pub record IsSetRoute (systems : List SystemConfiguration) (place : ℕ) (route : Route) : Type 0 where

@@ -10,10 +10,11 @@ use crate::event_line::{router_word, subnet_word, system_word};
 use crate::plan::Subnet;
 use crate::standing::Standing;
 use crate::word::{
-    address_word, five_words, four_words, is_digits, mtu_word, number_word, prefix_word, same,
-    snpa_word, two_words, wanted,
+    address_word, five_words, four_words, is_digits, mtu_word, number_word, prefix_word, snpa_word,
+    two_words, wanted,
 };
 use clnp_plan::SystemConfig;
+use clnp_plan::clnp_base::same;
 use clnp_plan::forwarding::Route;
 
 /// What is settled before the first event: the version of the text, the subnetworks and the systems.

@@ -16,10 +16,10 @@ use crate::setting::{each_once, setting_words, settings_of};
 use crate::system::{PortAt, System, role_word};
 use crate::word::{
     address_word, declared, first_four, first_two, five_words, four_words, is_digits, is_name,
-    is_one_at_most, mtu_word, name_word, number_word, prefix_word, same, snpa_word, three_words,
+    is_one_at_most, mtu_word, name_word, number_word, prefix_word, snpa_word, three_words,
     two_words, wanted,
 };
-use clnp_plan::clnp_base::next_word;
+use clnp_plan::clnp_base::{next_word, same};
 use clnp_plan::forwarding::Route;
 use clnp_plan::nsap::{Address, Prefix, Snpa};
 use clnp_plan::{Limits, PortConfig, Role, Settings};

@@ -18,9 +18,9 @@ use crate::system::is_router;
 use crate::wish::{ask_of, each_once, wish_words};
 use crate::word::{
     address_word, data_word, first_four, four_words, frame_word, is_name, is_one_at_most,
-    number_word, one_word, same, snpa_word, target_word, two_words, wanted,
+    number_word, one_word, snpa_word, target_word, two_words, wanted,
 };
-use clnp_plan::clnp_base::next_word;
+use clnp_plan::clnp_base::{next_word, same};
 use clnp_plan::{Role, SystemConfig};
 use std::alloc::Global;
 

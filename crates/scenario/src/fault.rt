@@ -37,7 +37,7 @@ impl<T: Drop> From<AllocFailed<T>> for ScenarioRefusal {
 
 /// Why a line isn't read.
 #[derive(Clone, Copy, Debug)]
-pub(crate) enum LineFault {
+pub enum LineFault {
     /// What the line breaks.
     Broken(Code),
     /// Memory was refused.

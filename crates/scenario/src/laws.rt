@@ -28,7 +28,8 @@ pub fn accepted_is_fit()
 
 /// So is what is accepted where a version is the newest that is read, for a live node too.
 pub(crate) fn each_version_is_fit()
-    ensures { (links : Option ℕ) (newest : ℕ) (text : List ℕ) (plan : Plan) → plan_at links newest (lines_of text) ≡ Ok plan → IsFit plan }
+    ensures { (links : Option ℕ) (newest : ℕ) (text : List ℕ) (plan : Plan)
+        → plan_at links newest (lines_of text) ≡ Ok plan → IsFit plan }
 {
     clnp_plan::clnp_options::laws::spelled_where_no_rule_is_broken();
     clnp_plan::nsap::laws::read_is_address();
@@ -37,7 +38,8 @@ pub(crate) fn each_version_is_fit()
 /// What is accepted for a live node on a board of so many links is what is accepted anyhow and is for that board: it has
 /// one system, with a port for each link, and no events but those that a node takes.
 pub fn accepted_for_run()
-    ensures { (links : ℕ) (text : List ℕ) (plan : Plan) → (run_plan_of links text ≡ Ok plan) ↔ ((plan_of text ≡ Ok plan) × IsForBoard links plan) }
+    ensures { (links : ℕ) (text : List ℕ) (plan : Plan)
+        → (run_plan_of links text ≡ Ok plan) ↔ ((plan_of text ≡ Ok plan) × IsForBoard links plan) }
 {}
 
 /// What is written of a scenario is read as that scenario.
@@ -70,7 +72,8 @@ pub fn storms_are_scenarios()
 /// The texts of version 1 are read alike, whether later versions are read too or not; where they aren't, the header of
 /// version 2 is the first bad line.
 pub fn version_1_is_read_alike()
-    ensures accepted { (text : List ℕ) (plan : Plan) → (plan_of_version_1 text ≡ Ok plan) ↔ ((plan_of text ≡ Ok plan) × (plan.version ≡ 1)) }
+    ensures accepted { (text : List ℕ) (plan : Plan)
+        → (plan_of_version_1 text ≡ Ok plan) ↔ ((plan_of text ≡ Ok plan) × (plan.version ≡ 1)) }
     ensures alike { (text : List ℕ) → IsReadAlike text (header_from newest_version 1 (lines_of text)) }
 {}
 
@@ -86,7 +89,8 @@ pub fn migrated_is_fit()
 
 /// The text of each scenario of version 1, those of storms among them, becomes that of the scenario in version 2.
 pub fn version_1_texts_migrate()
-    ensures each { (plan : Plan) → IsFit plan → plan.version ≡ 1 → migration_of (text_of plan) ≡ Ok (text_of (migrated plan)) }
+    ensures each { (plan : Plan) → IsFit plan → plan.version ≡ 1
+        → migration_of (text_of plan) ≡ Ok (text_of (migrated plan)) }
     ensures storms { (seed : ℕ) → migration_of (text_of (storm seed)) ≡ Ok (text_of (migrated (storm seed))) }
 {
     what_is_written_is_read();

@@ -17,14 +17,14 @@ mod setting;
 mod standing;
 mod system;
 mod wish;
-mod word;
+pub mod word;
 mod writer;
 
 pub use clnp_plan;
 pub use clnp_plan::{clnp_base, clnp_views, esis_tables, forwarding, nsap, pdu_header};
 pub use code::Code;
 pub use event::{Body, Event, Move};
-pub use fault::ScenarioRefusal;
+pub use fault::{LineFault, ScenarioRefusal};
 pub use migration::migrate;
 pub use plan::{Scenario, Subnet};
 pub use reader::{read, read_for_run, read_version_1};

@@ -22,9 +22,9 @@ use crate::laws;
 use crate::plan::{Scenario, Subnet};
 use crate::standing::Standing;
 use crate::system::System;
-use crate::word::{is_line_of, is_skipped, same};
+use crate::word::{is_line_of, is_skipped};
 use clnp_plan::SystemConfig;
-use clnp_plan::clnp_base::next_line;
+use clnp_plan::clnp_base::{next_line, same};
 use std::alloc::{AllocError, Global};
 
 /// A line that breaks the grammar, by its number and the code's.

@@ -9,7 +9,7 @@ ghost use Rattle.scenario.specs.Standing.{is_among};
 
 use crate::code::Code;
 use crate::fault::LineFault;
-use crate::word::same;
+use clnp_plan::clnp_base::same;
 use clnp_plan::forwarding::Route;
 use clnp_plan::nsap::{Address, Prefix, Snpa};
 use clnp_plan::{PortConfig, Role, Settings, SystemConfig};

@@ -8,9 +8,9 @@ ghost use Rattle.scenario.specs.Words.{each_once};
 ghost use Rattle.scenario.specs.Refusal.{Faults};
 
 use crate::fault::LineFault;
-use crate::word::{has_prefix, life_word, literal, options_word, same};
+use crate::word::{has_prefix, life_word, literal, options_word};
 use clnp_plan::Ask;
-use clnp_plan::clnp_base::next_word;
+use clnp_plan::clnp_base::{next_word, same};
 use clnp_plan::clnp_options::OptionList;
 use std::alloc::Global;
 

@@ -1,6 +1,5 @@
 //! The words of a line: each gives its value, or the code of what is wrong with it.
 ghost use Rattle.std.specs.Prelude.{◌≡◌, ◌<◌, ◌≤◌, length, IfOk, IfSome, None, Some, Ok, Err, MatchOption, MatchResult};
-ghost use Rattle.std.specs.Str.{bytes_eq};
 ghost use Rattle.std.specs.List.{list_all, list_any, position};
 ghost use Rattle.clnp_plan.specs.ClnpBase.Text.{words_of, is_digit, decimal_of};
 ghost use Rattle.scenario.specs.Grammar.{is_line_of};
@@ -11,7 +10,7 @@ ghost use Rattle.scenario.specs.declared.code.Code.TheVariants as bad;
 use crate::code::Code;
 use crate::event::Body;
 use crate::fault::LineFault;
-use clnp_plan::clnp_base::{Octets, decimal, next_word};
+use clnp_plan::clnp_base::{Octets, decimal, next_word, same};
 use clnp_plan::clnp_options::OptionList;
 use clnp_plan::nsap::{Address, Prefix, Snpa, Target};
 use std::alloc::Global;
@@ -28,7 +27,7 @@ pub(crate) fn one_word(line: &[u8]) -> Option<&[u8]>
 }
 
 /// The words of a line that has two words.
-pub(crate) fn two_words(line: &[u8]) -> Option<(&[u8], &[u8])>
+pub fn two_words(line: &[u8]) -> Option<(&[u8], &[u8])>
     ensures { MatchOption result (two_words (words_of line.now) ≡ None)
         (λ words. two_words (words_of line.now) ≡ Some (words.0.now, words.1.now)) }
 {
@@ -58,7 +57,7 @@ pub(crate) fn four_words(line: &[u8]) -> Option<(&[u8], &[u8], &[u8], &[u8])>
 }
 
 /// The words of a line that has five words.
-pub(crate) fn five_words(line: &[u8]) -> Option<(&[u8], &[u8], &[u8], &[u8], &[u8])>
+pub fn five_words(line: &[u8]) -> Option<(&[u8], &[u8], &[u8], &[u8], &[u8])>
     ensures { MatchOption result (five_words (words_of line.now) ≡ None)
         (λ words. five_words (words_of line.now) ≡ Some (words.0.now, words.1.now, words.2.now, words.3.now, words.4.now)) }
 {
@@ -100,7 +99,7 @@ pub(crate) fn first_four(line: &[u8]) -> Option<(&[u8], &[u8], &[u8], &[u8], &[u
 }
 
 /// Whether a line has this word alone.
-pub(crate) fn is_line_of(text: &[u8], line: &[u8]) -> bool
+pub fn is_line_of(text: &[u8], line: &[u8]) -> bool
     ensures { result ≡ is_line_of text.now (words_of line.now) }
 {
     match one_word(line) {
@@ -110,20 +109,13 @@ pub(crate) fn is_line_of(text: &[u8], line: &[u8]) -> bool
 }
 
 /// Whether a line is empty or begins with `#`.
-pub(crate) fn is_skipped(line: &[u8]) -> bool
+pub fn is_skipped(line: &[u8]) -> bool
     ensures { result ≡ is_skipped line.now }
 {
     match line {
         [first, ..] => *first == b'#',
         [] => true,
     }
-}
-
-/// Whether two words are the same.
-pub(crate) fn same(word: &[u8], other: &[u8]) -> bool
-    ensures { result ≡ bytes_eq word.now other.now }
-{
-    word == other
 }
 
 /// Nothing where it holds, and else the code.
@@ -134,7 +126,7 @@ pub(crate) fn wanted(holds: bool, code: Code) -> Result<(), Code>
 }
 
 /// This very word.
-pub(crate) fn literal(text: &[u8], word: &[u8]) -> Result<(), Code>
+pub fn literal(text: &[u8], word: &[u8]) -> Result<(), Code>
     ensures { result ≡ literal text.now word.now }
 {
     wanted(same(word, text), Code::Syntax)
@@ -165,7 +157,7 @@ fn all_letters_or_digits(word: &[u8]) -> bool
 }
 
 /// Whether a word is up to 16 letters a to z and digits, the first of them a letter.
-pub(crate) fn is_name(word: &[u8]) -> bool
+pub fn is_name(word: &[u8]) -> bool
     ensures { result ≡ is_name word.now }
 {
     begins_with_letter(word) && all_letters_or_digits(word) && word.len() <= 16
@@ -204,7 +196,7 @@ fn number_within(low: u64, high: u64, number: Option<u64>) -> Option<u64>
 }
 
 /// A decimal from `low` to `high`.
-pub(crate) fn number_word(low: u64, high: u64, word: &[u8]) -> Result<u64, Code>
+pub fn number_word(low: u64, high: u64, word: &[u8]) -> Result<u64, Code>
     ensures number { result ≡ number_word low high word.now }
     ensures within { IfOk result (λ n. n ≤ high) }
 {
@@ -229,7 +221,7 @@ fn all_digits(word: &[u8]) -> bool
 }
 
 /// Whether a word is one or more digits.
-pub(crate) fn is_digits(word: &[u8]) -> bool
+pub fn is_digits(word: &[u8]) -> bool
     ensures { result ≡ is_digits word.now }
 {
     !word.is_empty() && all_digits(word)
@@ -246,7 +238,7 @@ pub(crate) fn mtu_word(word: &[u8]) -> Result<u16, Code>
 }
 
 /// An NSAP address.
-pub(crate) fn address_word(word: &[u8]) -> Result<Address, Code>
+pub fn address_word(word: &[u8]) -> Result<Address, Code>
     ensures { result ≡ address_word word.now }
 {
     match Address::from_text(word) {

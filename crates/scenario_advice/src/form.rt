@@ -1,8 +1,9 @@
 //! The forms of words, and which word breaks its own.
-use crate::place::{Mark, Place, same, word_at};
+use crate::place::{Mark, Place, word_at};
 use scenario::Code;
-use scenario::clnp_base::decimal;
+use scenario::clnp_base::{decimal, same};
 use scenario::nsap::{Address, Prefix, Snpa};
+use scenario::word::{is_digits, is_name};
 
 /// What a word of a line has to be.
 #[derive(Clone, Copy)]
@@ -129,25 +130,6 @@ fn broken_port(at: Place<'_>, line: &[u8], word: &[u8]) -> Option<Code> {
         at.before(b"port", Mark::Port { name, number }).is_some(),
         Code::UnknownName,
     )
-}
-
-/// Whether a word is up to 16 letters a to z and digits, the first of them a letter.
-pub(crate) fn is_name(word: &[u8]) -> bool {
-    match word {
-        [first, ..] => {
-            first.is_ascii_lowercase()
-                && word.len() <= 16
-                && word
-                    .iter()
-                    .all(|c| c.is_ascii_lowercase() || c.is_ascii_digit())
-        }
-        [] => false,
-    }
-}
-
-/// Whether a word is one or more digits.
-fn is_digits(word: &[u8]) -> bool {
-    !word.is_empty() && word.iter().all(|c| c.is_ascii_digit())
 }
 
 /// Whether a word is a decimal number of a range.

@@ -1,7 +1,8 @@
 //! The lines of a scenario text: the forms of their words.
 use crate::form::{Form, are_octets, is_number, unless};
-use crate::place::{Place, same};
+use crate::place::Place;
 use scenario::Code;
+use scenario::clnp_base::same;
 use scenario::clnp_plan::clnp_options::OptionList;
 
 /// What may stand behind the words that a line must have.
@@ -250,6 +251,14 @@ pub(crate) fn event_of(at: Place<'_>, keyword: &[u8], count: usize) -> Option<Li
         None if at.is_of_version_2() => form_of(CHANGES, keyword),
         None => None,
     }
+}
+
+/// The event of a keyword in a text for a live node, if it is one that such a node takes.
+pub(crate) fn live_event_of(keyword: &[u8]) -> Option<LineForm> {
+    if same(keyword, b"send") || same(keyword, b"echo") || same(keyword, b"tick") {
+        return form_of(EVENTS, keyword);
+    }
+    None
 }
 
 /// A key and the range of its number.

@@ -1,7 +1,8 @@
 //! The first line of a scenario text.
 use crate::advice::Advice;
 use crate::file::of_file;
-use crate::place::{Place, VERSION_2, same};
+use crate::place::{Place, VERSION_2};
+use scenario::clnp_base::same;
 
 /// The header of a text of version 1.
 const VERSION_1: &[u8] = b"clnp-sim 1";

@@ -1,14 +1,10 @@
 //! A line of a text, and what the lines before it declare.
-use scenario::clnp_base::{decimal, lines, next_word, words};
+use scenario::clnp_base::{decimal, lines, next_word, same, words};
 use scenario::nsap::{Address, Prefix, Snpa};
+use scenario::word::is_skipped;
 
 /// The header of a text of version 2.
 pub(crate) const VERSION_2: &[u8] = b"clnp-sim 2";
-
-/// Whether two words are the same.
-pub(crate) fn same(word: &[u8], other: &[u8]) -> bool {
-    word == other
-}
 
 /// The word at a place of a line, from 1.
 pub(crate) fn word_at(line: &[u8], place: usize) -> Option<&[u8]> {
@@ -127,14 +123,6 @@ fn is_of_port(line: &[u8], other: &[u8]) -> bool {
     match (word_at(line, 2), number_at(line, 3)) {
         (Some(name), Some(number)) => has_word(other, 2, name) && has_number(other, 3, number),
         _ => false,
-    }
-}
-
-/// Whether a line is empty or begins with `#`.
-pub(crate) fn is_skipped(line: &[u8]) -> bool {
-    match line {
-        [first, ..] => *first == b'#',
-        [] => true,
     }
 }
 

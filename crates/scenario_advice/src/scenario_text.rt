@@ -2,37 +2,56 @@
 ghost use Rattle.scenario_advice.specs.Said.{IsTold};
 
 use crate::advice::Advice;
-use crate::grammar::{DECLARATIONS, LineForm, More, declaration_of, event_of, form_of};
+use crate::grammar::{
+    DECLARATIONS, LineForm, More, declaration_of, event_of, form_of, live_event_of,
+};
 use crate::header::{Versions, of_header};
-use crate::place::{Place, count_words, same, word_at};
+use crate::place::{Place, count_words, word_at};
 use crate::systems::of_systems;
 use crate::whole::of_whole;
 use crate::word::{of_further_word, of_keyword, of_word, of_word_too_many, of_words_missing};
 use scenario::Code;
-use scenario::clnp_base::{next_word, words};
+use scenario::clnp_base::{next_word, same, words};
 
 /// What is said to the author of a scenario text, of either version, that is refused at a line, from 1, with the number of a
 /// code: which word is at fault and what is wanted there, or which names the line is about. Where that can't be told, the line.
 pub fn of_scenario(text: &[u8], line: u32, code: u8) -> Advice
     ensures told { IsTold result }
 {
-    of_text(Place { text, number: line }, code, Versions::All)
+    of_text(Place { text, number: line }, code, Versions::All, None)
 }
 
 /// The same where texts of version 1 alone are read.
 pub fn of_scenario_of_version_1(text: &[u8], line: u32, code: u8) -> Advice
     ensures told { IsTold result }
 {
-    of_text(Place { text, number: line }, code, Versions::FirstAlone)
+    of_text(
+        Place { text, number: line },
+        code,
+        Versions::FirstAlone,
+        None,
+    )
 }
 
-/// What is said of a line that is refused with the number of a code.
-fn of_text(at: Place<'_>, code: u8, versions: Versions) -> Advice
+/// The same where texts are read for a live node on a board of so many links.
+pub fn of_scenario_for_run(text: &[u8], links: usize, line: u32, code: u8) -> Advice
+    ensures told { IsTold result }
+{
+    of_text(
+        Place { text, number: line },
+        code,
+        Versions::All,
+        Some(links),
+    )
+}
+
+/// What is said of a line that is refused with the number of a code; for a live node, where links are given.
+fn of_text(at: Place<'_>, code: u8, versions: Versions, links: Option<usize>) -> Advice
     ensures told { IsTold result }
 {
     let found = match Code::of_number(code) {
         Some(Code::Header) => of_header(at, versions),
-        Some(code) => of_line(at, code),
+        Some(code) => of_line(at, code, links),
         None => None,
     };
     match found {
@@ -42,7 +61,7 @@ fn of_text(at: Place<'_>, code: u8, versions: Versions) -> Advice
 }
 
 /// What is said of a line behind the header.
-fn of_line(at: Place<'_>, code: Code) -> Option<Advice> {
+fn of_line(at: Place<'_>, code: Code, links: Option<usize>) -> Option<Advice> {
     let has_events = at.alone(b"events").is_some();
     let Some(line) = at.line() else {
         return of_end_of_text(has_events, code);
@@ -51,7 +70,7 @@ fn of_line(at: Place<'_>, code: Code) -> Option<Advice> {
         return of_spaces(code);
     };
     if !has_events {
-        return of_declaration(at, line, keyword, rest, code);
+        return of_declaration(at, line, keyword, rest, code, links);
     }
     if at.alone(b"end").is_some() {
         return only_syntax(
@@ -59,10 +78,23 @@ fn of_line(at: Place<'_>, code: Code) -> Option<Advice> {
             "nothing but skipped lines may stand behind the line end",
         );
     }
-    if let Some(form) = event_of(at, keyword, count_words(rest)) {
+    if let Some(form) = event_for(at, keyword, count_words(rest), links) {
         return of_words(at, line, rest, form, code);
     }
-    only_for_syntax(code, of_other_event(at, keyword, rest))
+    only_for_syntax(code, of_other_event(at, keyword, rest, links))
+}
+
+/// The event of a keyword with so many words behind it, if it is one that may come.
+fn event_for(
+    at: Place<'_>,
+    keyword: &[u8],
+    count: usize,
+    links: Option<usize>,
+) -> Option<LineForm> {
+    match links {
+        None => event_of(at, keyword, count),
+        Some(_) => live_event_of(keyword),
+    }
 }
 
 /// A text where the code is that of syntax.
@@ -102,6 +134,7 @@ fn of_declaration(
     keyword: &[u8],
     rest: &[u8],
     code: Code,
+    links: Option<usize>,
 ) -> Option<Advice> {
     if let Some(form) = declaration_of(at, keyword) {
         return of_words(at, line, rest, form, code);
@@ -109,7 +142,7 @@ fn of_declaration(
     if same(keyword, b"events") {
         return match next_word(rest) {
             Some((word, _)) => only_for_syntax(code, of_word_too_many(2, word, "events")),
-            None if code == Code::Count => of_systems(at),
+            None if code == Code::Count => of_systems(at, links),
             None => of_missing_limits(at, code),
         };
     }
@@ -135,13 +168,15 @@ fn of_missing_limits(at: Place<'_>, code: Code) -> Option<Advice> {
 }
 
 /// What is said of a line behind `events` whose first word is no event.
-fn of_other_event(at: Place<'_>, keyword: &[u8], rest: &[u8]) -> Advice {
+fn of_other_event(at: Place<'_>, keyword: &[u8], rest: &[u8], links: Option<usize>) -> Advice {
     if same(keyword, b"end") {
         if let Some((word, _)) = next_word(rest) {
             return of_word_too_many(2, word, "end");
         }
     }
-    let wanted = if form_of(DECLARATIONS, keyword).is_some() {
+    let wanted = if links.is_some() {
+        "send, echo, tick or end; a run takes no other event, and declarations stand before the line events"
+    } else if form_of(DECLARATIONS, keyword).is_some() {
         "an event, or the line end; declarations stand before the line events"
     } else if at.is_of_version_2() {
         "send, echo, deliver, settle, lose, tick, restart, congest, inject, mtu, route, unroute, port or end"

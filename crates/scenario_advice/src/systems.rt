@@ -1,7 +1,7 @@
-//! What a system lacks at the line `events`.
+//! What systems lack at the line `events`.
 use crate::advice::Advice;
-use crate::place::{Place, number_at, same};
-use scenario::clnp_base::{lines, next_word};
+use crate::place::{Place, number_at};
+use scenario::clnp_base::{lines, next_word, same};
 
 /// The most systems of a scenario.
 const MOST: usize = 64;
@@ -40,6 +40,17 @@ impl<'a> Given<'a> {
             ports: self.ports | bit_of(line),
             ..self
         }
+    }
+
+    /// How many ports the system has.
+    fn count_ports(self) -> u64 {
+        let mut left = self.ports;
+        let mut count: u64 = 0;
+        for _ in 0..8 {
+            count = count.saturating_add(u64::from(left % 2));
+            left /= 2;
+        }
+        count
     }
 
     /// What the system lacks, if it lacks anything.
@@ -91,8 +102,9 @@ fn first_gap(ports: u8) -> Option<u64> {
     None
 }
 
-/// What is said at the line `events`: the first system that isn't complete. The lines before it are read once.
-pub(crate) fn of_systems(at: Place<'_>) -> Option<Advice> {
+/// What is said at the line `events`: the first system that isn't complete, or else why the systems aren't those for a board
+/// of so many links, where there is one. The lines before it are read once.
+pub(crate) fn of_systems(at: Place<'_>, links: Option<usize>) -> Option<Advice> {
     let mut systems = [Given::nothing(b""); MOST];
     let mut number: u32 = 1;
     for line in lines(at.text) {
@@ -102,7 +114,11 @@ pub(crate) fn of_systems(at: Place<'_>) -> Option<Advice> {
         take_in(&mut systems, line);
         number = number.saturating_add(1);
     }
-    first_lack(&systems)
+    let lack = first_lack(&systems);
+    if lack.is_some() {
+        return lack;
+    }
+    of_misfit(&systems, links?)
 }
 
 /// Takes in a line that declares a system, or gives one an address or a port.
@@ -164,4 +180,32 @@ fn first_lack(systems: &[Given<'_>]) -> Option<Advice> {
         }
     }
     None
+}
+
+/// What is said of systems that aren't one alone with a port for each of so many links.
+fn of_misfit(systems: &[Given<'_>], links: usize) -> Option<Advice> {
+    let count = count_declared(systems);
+    if count != 1 {
+        let advice = Advice::of("the number of systems is ").number(count);
+        return Some(advice.text("; wanted: 1, which is the node"));
+    }
+    let [node, ..] = systems else {
+        return None;
+    };
+    let advice = Advice::of("the number of ports of ").octets(node.name);
+    let advice = advice.text(" is ").number(node.count_ports());
+    let advice = advice.text("; wanted: ").number(links as u64);
+    Some(advice.text(", one for each link"))
+}
+
+/// How many systems are declared.
+fn count_declared(systems: &[Given<'_>]) -> u64 {
+    let mut count: u64 = 0;
+    for system in systems {
+        if system.name.is_empty() {
+            return count;
+        }
+        count = count.saturating_add(1);
+    }
+    count
 }

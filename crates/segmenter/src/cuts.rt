@@ -70,7 +70,8 @@ impl Cuts {
     pub fn new(head: Header, body_len: usize, mtu: u16) -> Result<Cuts, NotPermitted>
         requires mtu { 512 ≤ mtu }
         requires data { (v : PduValue) × SpellsHeader v head × (length v.body ≡ body_len) }
-        ensures cut { (v : PduValue) → SpellsHeader v head → length v.body ≡ body_len → MatchOption (cut v mtu) (result ≡ Err (record { octets = segment_length v })) (λ pieces. result ≡ Ok (map given pieces)) }
+        ensures cut { (v : PduValue) → SpellsHeader v head → length v.body ≡ body_len
+            → MatchOption (cut v mtu) (result ≡ Err (record { octets = segment_length v })) (λ pieces. result ≡ Ok (map given pieces)) }
         ensures each { IfOk result (AllByRecursion (IsCutOf body_len)) }
     {
         // Its clause: a header has one value, but for what the data hold.
@@ -129,7 +130,8 @@ impl Iterator for Cuts {
 /// The header of a segment with `len` octets of data from place `from` of the data behind this header.
 fn segment_header(head: &Header, part: SegPart, from: usize, len: usize) -> Header
     requires { (v : PduValue) × SpellsHeader v head.now × (v.segmentation ≡ Some (part_value part)) × (from + len ≤ length v.body) }
-    ensures { (v : PduValue) → SpellsHeader v head.now → v.segmentation ≡ Some (part_value part) → from + len ≤ length v.body → SpellsHeader (segment v (part_value part) (record { from = from; len = len })) result }
+    ensures { (v : PduValue) → SpellsHeader v head.now → v.segmentation ≡ Some (part_value part)
+        → from + len ≤ length v.body → SpellsHeader (segment v (part_value part) (record { from = from; len = len })) result }
 {
     let offset = usize::from(part.offset) + from;
     let unit_len = usize::from(part.total) - head.as_bytes().len();

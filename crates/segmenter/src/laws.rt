@@ -44,8 +44,10 @@ pub fn pieces_are_pdus_that_fit()
 /// A range of a PDU's data is a PDU of its own; and the ranges of all segments stand one behind another, from the first
 /// octet of the data to the last.
 pub fn segments_are_pdus_one_behind_another()
-    ensures pdu { (v : PduValue) (part : SegmentationPart) (range : Range) → v.segmentation ≡ Some part → IsPdu v → range.from + range.len ≤ length v.body → IsPdu (segment v part range) }
-    ensures tile { (v : PduValue) (mtu : ℕ) → IsPdu v → 512 ≤ mtu → Tiles 0 (ranges (data_room (header_length v) mtu) (length v.body)) (length v.body) }
+    ensures pdu { (v : PduValue) (part : SegmentationPart) (range : Range) → v.segmentation ≡ Some part → IsPdu v
+        → range.from + range.len ≤ length v.body → IsPdu (segment v part range) }
+    ensures tile { (v : PduValue) (mtu : ℕ) → IsPdu v → 512 ≤ mtu
+        → Tiles 0 (ranges (data_room (header_length v) mtu) (length v.body)) (length v.body) }
     ensures within { (v : PduValue) (mtu : ℕ) → IsPdu v → 512 ≤ mtu
         → AllByRecursion (λ range. range.from + range.len ≤ length v.body) (ranges (data_room (header_length v) mtu) (length v.body)) }
 {}

@@ -18,12 +18,12 @@ use Rattle.clnp_machine.specs.EsisPdus.Grammar as esis
 use Rattle.clnp_machine.specs.EsisPdus.Rules as esis_rules
 use Rattle.clnp_machine.specs.EsisPdus.Spelling.{spelling}
 use Rattle.clnp_machine.specs.EsisPdus.Value.{EsisValue}
-use Rattle.clnp_machine.specs.EsisTables.declared.fact.Place.{Place}
+use Rattle.clnp_machine.specs.EsisTables.declared.fact.Neighbour.{Neighbour}
 use Rattle.clnp_machine.specs.Unit.{IsCarriable, Packet, value_of, wire}
 use Rattle.clnp_machine.specs.Content.{Content, IsCarried, Labelled, Esis, Unlabelled, frame_of}
 use Rattle.clnp_machine.specs.System.{SystemState}
 use Rattle.clnp_machine.specs.Local.{discard, tells}
-use Rattle.clnp_machine.specs.Steps.{CarriesOneEsisValue, CarriesOnePacket}
+use Rattle.clnp_machine.specs.EveryStep.{CarriesOneEsisValue, CarriesOnePacket}
 use Rattle.clnp_machine.specs.Step.{begins_unit, content_comes, discard_refused, effect_of, octets_come, unheard_note}
 
 -- a frame with an ES-IS value begins with the protocol's octet, one with a packet with its own
@@ -109,15 +109,15 @@ begins_refused frame broken e other =
     absurd (cc)
 
 -- a frame that is refused for a rule is discarded for its reason
-pub frame_broken : BeginsAsEsis → (s : SystemState) (place : Place) (group : Bool) (frame : List ℕ) (broken : Broken)
+pub frame_broken : BeginsAsEsis → (s : SystemState) (neighbour : Neighbour) (group : Bool) (frame : List ℕ) (broken : Broken)
     → why_refused frame ≡ Some (refused.Broken broken) → ((v : PduValue) (rest : List ℕ) → BeginsWith frame v rest → ⊥)
     → (content : Content) → IsCarried content → frame_of content ≡ frame
-    → effect_of (discard s content broken.reason broken.place) ≡ content_comes s place group content
-frame_broken begun s place group frame broken why none (Labelled p following) carriable e =
+    → effect_of (discard s content broken.reason broken.place) ≡ content_comes s neighbour group content
+frame_broken begun s neighbour group frame broken why none (Labelled p following) carriable e =
     absurd (none (value_of p) following (record { octets = wire p; spells = record { pdu = carriable.pdu; octets_are = refl }; split = sym e }))
-frame_broken begun s place group frame broken why none (Esis value following) pdu e =
+frame_broken begun s neighbour group frame broken why none (Esis value following) pdu e =
     absurd (begins_refused frame broken why (ap (λ (f : List ℕ). octet f 1) (sym e) ∙ begun value following pdu))
-frame_broken begun s place group frame broken why none (Unlabelled octets) carried e =
+frame_broken begun s neighbour group frame broken why none (Unlabelled octets) carried e =
     ap effect_of (sym (octets_broken s octets broken (ap why_refused e ∙ why)))
 
 octets_unheard : (s : SystemState) (octets : List ℕ) → octet octets 1 ≢ 0x81
@@ -126,14 +126,14 @@ octets_unheard s octets other =
     ap (λ (b : Bool). cond b (discard_refused s octets (refusal octets)) (tells s (unheard_note (esis_rules.why_refused octets)))) (ne_eqb (octet octets 1) 0x81 other)
 
 -- a frame of neither protocol is noted
-pub frame_unheard : BeginsAsClnp → (s : SystemState) (place : Place) (group : Bool) (frame : List ℕ) (why : EsisRefusal)
+pub frame_unheard : BeginsAsClnp → (s : SystemState) (neighbour : Neighbour) (group : Bool) (frame : List ℕ) (why : EsisRefusal)
     → esis_rules.why_refused frame ≡ Some why → ((v : EsisValue) (rest : List ℕ) → esis.BeginsWith frame v rest → ⊥) → octet frame 1 ≢ 0x81
     → (content : Content) → IsCarried content → frame_of content ≡ frame
-    → effect_of (tells s (unheard_note (Some why))) ≡ content_comes s place group content
-frame_unheard begun s place group frame why is none other (Labelled p following) carriable e =
+    → effect_of (tells s (unheard_note (Some why))) ≡ content_comes s neighbour group content
+frame_unheard begun s neighbour group frame why is none other (Labelled p following) carriable e =
     absurd (other (ap (λ (f : List ℕ). octet f 1) (sym e) ∙ begun p following carriable))
-frame_unheard begun s place group frame why is none other (Esis value following) pdu e =
+frame_unheard begun s neighbour group frame why is none other (Esis value following) pdu e =
     absurd (none value following (record { octets = spelling value; spells = record { pdu = pdu; octets_are = refl }; split = sym e }))
-frame_unheard begun s place group frame why is none other (Unlabelled octets) carried e =
+frame_unheard begun s neighbour group frame why is none other (Unlabelled octets) carried e =
     ap (λ (r : Option EsisRefusal). effect_of (tells s (unheard_note r))) (sym (ap esis_rules.why_refused e ∙ is))
     ∙ ap effect_of (sym (octets_unheard s octets (λ at. other (ap (λ (f : List ℕ). octet f 1) (sym e) ∙ at))))

@@ -1,52 +1,52 @@
 -- What is given out for several actions, one after another.
-use Rattle.std.proofs.Common.{◌≡◌, ◌∙◌, refl, sym, ap, subst, ℕ, zero, suc, ◌<◌, List, [], ◌∷◌, ◌++◌, length, get_or, arith}
+use Rattle.std.proofs.Common.{◌≡◌, ◌∙◌, refl, sym, ap, subst, ℕ, zero, suc, ◌<◌, List, [], ◌∷◌, ◌++◌, length, get_or, arith, None}
 use Rattle.std.specs.List.{AllByRecursion, flat_map}
 use Rattle.std.proofs.lemmas.Grind.{flat_map-append}
 use Rattle.std.proofs.lemmas.List.{append-nil}
 use Rattle.clnp_machine.specs.ClnpPlan.declared.output.Output.{Output}
 use Rattle.clnp_machine.specs.System as machine
 use Rattle.clnp_machine.specs.System.{SystemState}
-use Rattle.clnp_machine.specs.Local as local
+use Rattle.clnp_machine.specs.Local as locally
 use Rattle.clnp_machine.specs.Local.{Sends, Tells}
 use Rattle.clnp_machine.specs.Step.{outputs_of}
 use Rattle.clnp_machine.specs.Given.{Appends}
 use Rattle.local_entity.specs.declared.action.Action.{Action}
 use Rattle.local_entity.specs.Local.{Does, DoAll}
-use Rattle.local_entity.specs.Local as entity
+use Rattle.local_entity.specs.Local as local_entity
 use Rattle.system_entity.specs.Deeds.{IsFresh}
 use Rattle.system_entity.specs.State.{SystemEntityState}
 use Rattle.system_entity.specs.Stands.{PartsStandSince}
 pub use Rattle.clnp_machine.proofs.Given.{appends_both, appends_none, appends_note}
 
 -- some actions of the model, and the last of them, apart
-pub record DoLast (actions : List Action) (action : Action) (others : List local.Action) : Type 0 where
-  pub front : List local.Action
-  pub last : local.Action
+pub record DoLast (actions : List Action) (action : Action) (others : List locally.Action) : Type 0 where
+  pub front : List locally.Action
+  pub last : locally.Action
   pub are : others ≡ front ++ last ∷ []
   pub do_front : DoAll actions front
   pub does : Does action last
 
-no_more : (action : Action) (other : local.Action) (others : List local.Action) → Does action other → DoAll [] others → DoLast [] action (other ∷ others)
+no_more : (action : Action) (other : locally.Action) (others : List locally.Action) → Does action other → DoAll [] others → DoLast [] action (other ∷ others)
 no_more action other [] h k = record { front = []; last = other; are = refl; do_front = tt; does = h }
 no_more action other (more ∷ others) h k = absurd k
 
-do_last : (actions : List Action) (action : Action) (others : List local.Action) → DoAll (actions ++ action ∷ []) others → DoLast actions action others
+do_last : (actions : List Action) (action : Action) (others : List locally.Action) → DoAll (actions ++ action ∷ []) others → DoLast actions action others
 do_last [] action [] h = absurd h
 do_last [] action (other ∷ others) h = no_more action other others h.0 h.1
 do_last (first ∷ actions) action [] h = absurd h
 do_last (first ∷ actions) action (other ∷ others) h =
     let r = do_last actions action others h.1 in
-    record { front = other ∷ r.front; last = r.last; are = ap (λ (list : List local.Action). other ∷ list) r.are; do_front = (h.0, r.do_front); does = r.does }
+    record { front = other ∷ r.front; last = r.last; are = ap (λ (list : List locally.Action). other ∷ list) r.are; do_front = (h.0, r.do_front); does = r.does }
 
 -- each of the actions is one of the model's
-pub does_at : (actions : List Action) (others : List local.Action) (i : ℕ) (action : Action) → i < length actions → action ≡ get_or actions i action
-    → DoAll actions others → (other : local.Action) × Does action other
+pub does_at : (actions : List Action) (others : List locally.Action) (i : ℕ) (action : Action) → i < length actions → action ≡ get_or actions i action
+    → DoAll actions others → (other : locally.Action) × Does action other
 does_at [] others i action within at h = absurd (omega arith)
 does_at (first ∷ actions) [] i action within at h = absurd h
 does_at (first ∷ actions) (other ∷ others) zero action within at h = (other, subst (λ (one : Action). Does one other) (sym at) h.0)
 does_at (first ∷ actions) (other ∷ others) (suc i) action within at h = does_at actions others i action (omega arith) at h.1
 
-all_last : (moment : ℕ) (front : List local.Action) (last : local.Action) → AllByRecursion (IsFresh moment) (front ++ last ∷ [])
+all_last : (moment : ℕ) (front : List locally.Action) (last : locally.Action) → AllByRecursion (IsFresh moment) (front ++ last ∷ [])
     → AllByRecursion (IsFresh moment) front × IsFresh moment last
 all_last moment [] last h = (tt, h.0)
 all_last moment (other ∷ front) last h = let r = all_last moment front last h.1 in ((h.0, r.0), r.1)
@@ -54,37 +54,37 @@ all_last moment (other ∷ front) last h = let r = all_last moment front last h.
 -- what is given out for actions is what the model gives out for its own
 abbrev pub GivesOut : SystemEntityState → (before after : List Output) → List Action → Type 0
 GivesOut here before after actions =
-    (s : SystemState) (since : ℕ) (others : List local.Action) → PartsStandSince since here s → DoAll actions others
-    → AllByRecursion (IsFresh s.moment) others → Appends s.moment before after (flat_map (outputs_of s) others)
+    (s : SystemState) (since : ℕ) (others : List locally.Action) → PartsStandSince since here s → DoAll actions others
+    → AllByRecursion (IsFresh s.moment) others → Appends s.moment None before after (flat_map (outputs_of s) others)
 
 pub gives_none : (here : SystemEntityState) (list : List Output) → GivesOut here list list []
-gives_none here list s since [] stands all fresh = appends_none s.moment list list refl
+gives_none here list s since [] stands all fresh = appends_none s.moment None list list refl
 gives_none here list s since (other ∷ others) stands all fresh = absurd all
 
 pub gives_more : (here : SystemEntityState) (before mid after : List Output) (actions : List Action) (action : Action)
     → GivesOut here before mid actions
-    → ((s : SystemState) (since : ℕ) (other : local.Action) → PartsStandSince since here s → Does action other → IsFresh s.moment other
-    → Appends s.moment mid after (outputs_of s other))
+    → ((s : SystemState) (since : ℕ) (other : locally.Action) → PartsStandSince since here s → Does action other → IsFresh s.moment other
+    → Appends s.moment None mid after (outputs_of s other))
     → GivesOut here before after (actions ++ action ∷ [])
 gives_more here before mid after actions action so_far next s since others stands all fresh =
     let r = do_last actions action others all in
-    let parts = all_last s.moment r.front r.last (subst (λ (list : List local.Action). AllByRecursion (IsFresh s.moment) list) r.are fresh) in
-    let both = appends_both s.moment before mid after (flat_map (outputs_of s) r.front) (outputs_of s r.last)
+    let parts = all_last s.moment r.front r.last (subst (λ (list : List locally.Action). AllByRecursion (IsFresh s.moment) list) r.are fresh) in
+    let both = appends_both s.moment None before mid after (flat_map (outputs_of s) r.front) (outputs_of s r.last)
     (so_far s since r.front stands r.do_front parts.0) (next s since r.last stands r.does parts.1) in
     let joined : flat_map (outputs_of s) others ≡ flat_map (outputs_of s) r.front ++ outputs_of s r.last =
-    ap (λ (list : List local.Action). flat_map (outputs_of s) list) r.are ∙ flat_map-append (outputs_of s) r.front (r.last ∷ [])
+    ap (λ (list : List locally.Action). flat_map (outputs_of s) list) r.are ∙ flat_map-append (outputs_of s) r.front (r.last ∷ [])
     ∙ ap (λ (list : List machine.Output). flat_map (outputs_of s) r.front ++ list) (append-nil (outputs_of s r.last)) in
-    subst (λ (list : List machine.Output). Appends s.moment before after list) (sym joined) both
+    subst (λ (list : List machine.Output). Appends s.moment None before after list) (sym joined) both
 
 -- the actions that were appended to a fresh list are all in it
-pub all_done : (fresh actions : List Action) (others : List local.Action) → fresh ≡ [] → entity.Appends fresh actions others → DoAll actions others
+pub all_done : (fresh actions : List Action) (others : List locally.Action) → fresh ≡ [] → local_entity.Appends fresh actions others → DoAll actions others
 all_done fresh actions others none h =
     let all : actions ≡ h.actions = h.appended ∙ ap (λ (start : List Action). start ++ h.actions) none in
     subst (λ (list : List Action). DoAll list others) (sym all) h.do_all
 
 -- outputs that were appended to a fresh list, and this to another
 pub appends_fresh : (moment : ℕ) (fresh list before after : List Output) (others : List machine.Output) → fresh ≡ [] → after ≡ before ++ list
-    → Appends moment fresh list others → Appends moment before after others
+    → Appends moment None fresh list others → Appends moment None before after others
 appends_fresh moment fresh list before after others none written h =
     let all : list ≡ h.outputs = h.appended ∙ ap (λ (start : List Output). start ++ h.outputs) none in
     record { outputs = h.outputs; appended = written ∙ ap (λ (outputs : List Output). before ++ outputs) all; give_all = h.give_all }

@@ -8,16 +8,16 @@ use Rattle.clnp_machine.specs.ClnpPlan.Configuration.{SystemConfiguration}
 use Rattle.clnp_machine.specs.ClnpPlan.declared.config.PortConfig.{PortConfig}
 use Rattle.clnp_machine.specs.Identifiers.{Identifiers}
 use Rattle.clnp_machine.specs.Local.{Deed, IsAsOffered, Sends, Tells, made_in}
-use Rattle.clnp_machine.specs.Local as machine
+use Rattle.clnp_machine.specs.Local as locally
 use Rattle.clnp_machine.specs.Step.{congest}
-use Rattle.clnp_machine.specs.Steps as steps
-use Rattle.clnp_machine.specs.Steps.{IsDeed, LeavesTheRest, OnlyHellos}
+use Rattle.clnp_machine.specs.EveryStep as steps
+use Rattle.clnp_machine.specs.EveryStep.{IsDeed, LeavesTheRest, OnlyHellos}
 use Rattle.clnp_machine.specs.System.{SystemState, Effect, table_limits}
-use Rattle.clnp_machine.specs.Unit.{Packet, Unit, wire}
+use Rattle.clnp_machine.specs.Unit.{Packet, DataUnit, wire}
 use Rattle.clnp_machine.specs.Esis.{esis_limits}
 use Rattle.esis_entity.specs.State.{EsisState}
 use Rattle.esis_entity.specs.Stands as esis_entity
-use Rattle.clnp_machine.specs.EsisTables.Stands as heard
+use Rattle.clnp_machine.specs.EsisTables.Stands as esis_tables
 use Rattle.clnp_machine.specs.Forwarding.Stands as routing
 use Rattle.clnp_machine.specs.Forwarding.declared.routes.Routes.{Routes}
 use Rattle.clnp_machine.specs.EsisTables.Fact.{Fact}
@@ -52,7 +52,7 @@ local_same here s t k h =
       shown = h.shown ∙ ap (λ (buffers : List (Buffer Packet)). map_buffers wire buffers) (sym k.buffers);
       packets = subst (λ (buffers : List (Buffer Packet)). AllByRecursion (λ (buffer : Buffer Packet). AllByRecursion IsAsOffered buffer.kept) buffers)
           (sym k.buffers) h.packets;
-      pending = subst (λ (requests : List Unit). local_entity.AreRequests here.pending requests) (sym k.pending) h.pending;
+      pending = subst (λ (requests : List DataUnit). local_entity.AreRequests here.pending requests) (sym k.pending) h.pending;
     }
 
 pub keeps_rest : (s t : SystemState) → LeavesTheRest s t → KeepsLocal s t
@@ -60,7 +60,7 @@ keeps_rest s t h =
     record { configuration = h.configuration; hold = h.hold; count = h.count; identifiers = h.identifiers; buffers = h.buffers; pending = h.pending }
 
 -- an entity's state has no moment of its own
-pub keeps_moment : (s : SystemState) (now : ℕ) → KeepsLocal s (machine.at_moment now s)
+pub keeps_moment : (s : SystemState) (now : ℕ) → KeepsLocal s (locally.at_moment now s)
 keeps_moment s now = record { configuration = refl; hold = refl; count = refl; identifiers = refl; buffers = refl; pending = refl }
 
 -- what it heard and says keeps
@@ -68,7 +68,7 @@ pub esis_same : (before : ℕ) (here : EsisState) (s t : SystemState) → t.conf
     → t.next_hello ≡ s.next_hello → esis_entity.StandsSince before here s → esis_entity.StandsSince before here t
 esis_same before here s t configuration facts hello next h =
     record {
-      tables = subst (λ (heard_of : List Fact). heard.Stands here.tables heard_of before []) (sym facts) h.tables;
+      tables = subst (λ (heard_of : List Fact). esis_tables.Stands here.tables heard_of before []) (sym facts) h.tables;
       limits = h.limits ∙ ap (λ (c : SystemConfiguration). esis_limits (record s { configuration = c })) (sym configuration);
       period = h.period ∙ sym hello;
       next_hello = h.next_hello ∙ sym next;
@@ -110,7 +110,7 @@ parts_after_hello before here esis s effect only done h =
       since = omega arith;
     }
 
-fresh_of : (s : SystemState) (actions : List machine.Action) → AllByRecursion (steps.IsFresh s s.moment) (made_in actions)
+fresh_of : (s : SystemState) (actions : List locally.Action) → AllByRecursion (steps.IsFresh s s.moment) (made_in actions)
     → AllByRecursion (IsFresh s.moment) actions
 fresh_of s [] all = tt
 fresh_of s (Tells note ∷ actions) all = (tt, fresh_of s actions all)
@@ -126,11 +126,11 @@ parts_now before here t same h = subst (λ (m : ℕ). PartsStandSince m here t) 
 
 -- at a later moment nothing is forgotten yet
 pub parts_later : (here : SystemEntityState) (s : SystemState) (now : ℕ) → here.moment ≤ now → PartsStand here s
-    → PartsStandSince s.moment (record here { moment = now }) (machine.at_moment now s)
+    → PartsStandSince s.moment (record here { moment = now }) (locally.at_moment now s)
 parts_later here s now later h =
     record {
-      local = local_same here.local s (machine.at_moment now s) (keeps_moment s now) h.local;
-      esis = esis_same s.moment here.esis s (machine.at_moment now s) refl refl refl refl h.esis;
+      local = local_same here.local s (locally.at_moment now s) (keeps_moment s now) h.local;
+      esis = esis_same s.moment here.esis s (locally.at_moment now s) refl refl refl refl h.esis;
       ports = h.ports;
       routes = h.routes;
       moment = refl;

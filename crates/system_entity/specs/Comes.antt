@@ -1,9 +1,9 @@
 -- What came of a frame.
-use Rattle.std.specs.Prelude.{◌≡◌, ◌==◌, ℕ, Bool, false, List, length}
+use Rattle.std.specs.Prelude.{◌≡◌, ◌==◌, ℕ, Bool, false, List, length, None}
 use Rattle.clnp_machine.specs.PduHeader.Grammar.{BeginsWith}
 use Rattle.clnp_machine.specs.PduHeader.Headers.{SpellsHeader}
 use Rattle.clnp_machine.specs.PduHeader.Value.{PduValue}
-use Rattle.clnp_machine.specs.EsisTables.declared.fact.Place.{Place}
+use Rattle.clnp_machine.specs.EsisTables.declared.fact.Neighbour.{Neighbour}
 use Rattle.clnp_machine.specs.ClnpPlan.declared.output.Output.{Output}
 use Rattle.clnp_machine.specs.Content.{Content, Labelled}
 use Rattle.clnp_machine.specs.Given.{Appends}
@@ -18,10 +18,10 @@ use Rattle.system_entity.specs.declared.entity.Arrival.TheVariants.{Done, Passes
 use Rattle.system_entity.specs.declared.passing.Passing.{Passing}
 
 -- all was done that the system does, and given out
-pub record IsDone (s : SystemState) (place : Place) (group : Bool) (content : Content) (entity : SystemEntityState)
+pub record IsDone (s : SystemState) (neighbour : Neighbour) (group : Bool) (content : Content) (entity : SystemEntityState)
     (before after : List Output) : Type 0 where
-  pub parts : PartsStand entity (content_comes s place group content).after
-  pub outputs : Appends s.moment before after (content_comes s place group content).outputs
+  pub parts : PartsStand entity (content_comes s neighbour group content).after
+  pub outputs : Appends s.moment None before after (content_comes s neighbour group content).outputs
 
 -- a PDU that passes by has this value
 pub record HasValue (passing : Passing) (v : PduValue) : Type 0 where
@@ -49,9 +49,10 @@ pub record IsForOther (s : SystemState) (content : Content) (passing : Passing) 
   pub has_value : HasValue passing (value_of packet)
   pub not_own : is_own s packet.unit.destination ≡ false
 
-abbrev pub ComesOf : Arrival → SystemState → Place → Bool → Content → SystemEntityState → (before after : List Output) → Type 0
-ComesOf Done s place group content entity before after = IsDone s place group content entity before after
-ComesOf (Passes passing) s place group content entity before after = IsForOther s content passing
+abbrev pub ComesOf : Arrival → SystemState → Neighbour → Bool → Content → SystemEntityState
+    → (before after : List Output) → Type 0
+ComesOf Done s neighbour group content entity before after = IsDone s neighbour group content entity before after
+ComesOf (Passes passing) s neighbour group content entity before after = IsForOther s content passing
 
 -- where it is for another, nothing was done yet
 abbrev pub LeavesAsItWas : Arrival → (old new : SystemEntityState) → (before after : List Output) → Type 0

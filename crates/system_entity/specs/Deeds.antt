@@ -1,5 +1,5 @@
 -- What the steps of a system do, between its calls and what it gives out.
-use Rattle.std.specs.Prelude.{◌≡◌, ℕ, true, List}
+use Rattle.std.specs.Prelude.{◌≡◌, ℕ, true, List, None}
 use Rattle.clnp_machine.specs.Reassembly.State.{IsReady}
 use Rattle.clnp_machine.specs.ClnpPlan.declared.ask.SendRefusal.{SendRefusal}
 use Rattle.clnp_machine.specs.ClnpPlan.declared.ask.SendRefusal.TheVariants.{NoMemory}
@@ -31,4 +31,4 @@ pub record IsAtWork (entity : SystemEntityState) : Type 0 where
 -- a deed was done at a moment: the entity stands for the state after it, and exactly its outputs were appended
 pub record DoesDeed (moment : ℕ) (deed : Deed) (new : SystemEntityState) (before after : List Output) : Type 0 where
   pub stands : Stands new deed.after
-  pub outputs : Appends moment before after (effect_of deed).outputs
+  pub outputs : Appends moment None before after (effect_of deed).outputs

@@ -1,6 +1,6 @@
 -- One step of a system of the code, whatever comes to it: what it stands for and gives out then, and what is so where memory is
 -- refused in it.
-use Rattle.std.specs.Prelude.{◌≡◌, ◌≤◌, ◌<◌, ◌^◌, ℕ, true, false, List, length}
+use Rattle.std.specs.Prelude.{◌≡◌, ◌≤◌, ◌<◌, ◌^◌, ℕ, true, false, List, length, None, Some}
 use Rattle.clnp_machine.specs.ClnpOptions.Grammar.{FitsKind}
 use Rattle.clnp_machine.specs.ClnpOptions.Parameter.{parameters}
 use Rattle.clnp_machine.specs.ClnpPlan.declared.ask.SendRefusal.{SendRefusal}
@@ -9,7 +9,7 @@ use Rattle.clnp_machine.specs.ClnpPlan.declared.config.Role.{Role}
 use Rattle.clnp_machine.specs.ClnpPlan.declared.config.Role.TheVariants.{Host, Router}
 use Rattle.clnp_machine.specs.ClnpPlan.declared.output.Output.{Output}
 use Rattle.clnp_machine.specs.Content.{Content, IsCarried, frame_of}
-use Rattle.clnp_machine.specs.Given.{Appends, AppendsFor}
+use Rattle.clnp_machine.specs.Given.{Appends}
 use Rattle.clnp_machine.specs.Step.{step}
 use Rattle.clnp_machine.specs.System as machine
 use Rattle.clnp_machine.specs.System.{SystemState, AsksToSend, AsksForEcho, FrameComes, MomentComes, IsRestarted, IsCongested, IsChanged}
@@ -58,14 +58,14 @@ moment_at (IsChanged change) moment = moment
 
 -- Exactly these outputs of the model were appended. Where a frame came to a router, one of them may be a frame that goes on.
 abbrev pub AppendsOf : machine.Input → Role → (moment : ℕ) → (before after : List Output) → List machine.Output → Type 0
-AppendsOf (FrameComes port sender to_group content) Router moment before after others = AppendsFor moment content before after others
-AppendsOf (FrameComes port sender to_group content) Host moment before after others = Appends moment before after others
-AppendsOf (MomentComes now) role moment before after others = Appends moment before after others
-AppendsOf (AsksToSend from to octets ask) role moment before after others = Appends moment before after others
-AppendsOf (AsksForEcho from to octets) role moment before after others = Appends moment before after others
-AppendsOf IsRestarted role moment before after others = Appends moment before after others
-AppendsOf (IsCongested on) role moment before after others = Appends moment before after others
-AppendsOf (IsChanged change) role moment before after others = Appends moment before after others
+AppendsOf (FrameComes port sender to_group content) Router moment before after others = Appends moment (Some content) before after others
+AppendsOf (FrameComes port sender to_group content) Host moment before after others = Appends moment None before after others
+AppendsOf (MomentComes now) role moment before after others = Appends moment None before after others
+AppendsOf (AsksToSend from to octets ask) role moment before after others = Appends moment None before after others
+AppendsOf (AsksForEcho from to octets) role moment before after others = Appends moment None before after others
+AppendsOf IsRestarted role moment before after others = Appends moment None before after others
+AppendsOf (IsCongested on) role moment before after others = Appends moment None before after others
+AppendsOf (IsChanged change) role moment before after others = Appends moment None before after others
 
 -- A step was taken: whatever state the system stood for, it stands for the one after the machine's step, and exactly the outputs
 -- of that step were appended.

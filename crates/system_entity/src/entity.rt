@@ -10,36 +10,36 @@ ghost use Rattle.clnp_machine.specs.ClnpPlan.declared.ask.SendRefusal.TheVariant
 ghost use Rattle.clnp_machine.specs.ClnpPlan.declared.output.Output.TheVariants.{Note as Noted};
 ghost use Rattle.clnp_machine.specs.Content.{Content, IsCarried, frame_of};
 ghost use Rattle.clnp_machine.specs.Given.{Appends};
-ghost use Rattle.clnp_machine.specs.Local as machine;
+ghost use Rattle.clnp_machine.specs.Local as locally;
 ghost use Rattle.clnp_machine.specs.Local.{has_address, restarted};
 ghost use Rattle.clnp_machine.specs.Step.{congest, effect_of, next_hop, way_of};
 ghost use Rattle.clnp_machine.specs.Esis.{redirect};
 ghost use Rattle.clnp_machine.specs.System.{SystemState, MomentComes, SendsEsis, first_state, next_number};
 ghost use Rattle.clnp_machine.specs.EsisTables.declared.fact.TableKind.TheVariants.{Es};
-ghost use Rattle.clnp_machine.specs.EsisTables.NextHop.{current_place};
+ghost use Rattle.clnp_machine.specs.EsisTables.NextHop.{current_neighbour};
 ghost use Rattle.clnp_machine.specs.Nsap.declared.target.Target.TheVariants.{System};
 ghost use Rattle.local_entity.specs.Local.{IsWhy};
-ghost use Rattle.local_entity.specs.Sending.{hop_option, transmission};
+ghost use Rattle.local_entity.specs.Sending.{transmission};
 ghost use Rattle.clnp_machine.specs.Segmenter.Left.{IsCutOf};
 ghost use Rattle.system_entity.specs.Comes.{ComesOf, LeavesAsItWas, TellsPdu};
 ghost use Rattle.system_entity.specs.Stands.{IsLeftBy, PartsStandSince, Stands};
 ghost use Rattle.system_entity.specs.Steps.{IsSpentIn, TakesStep};
-ghost use Rattle.system_entity.specs.Ways.{way_option};
 
 use crate::passing::Passing;
-use crate::way::{Way, by_route, host_hop, to_neighbour};
+use crate::way::{by_route, host_hop, to_neighbour};
 use clnp_machine::clnp_base::NoMemory;
 use clnp_machine::clnp_plan::{
     Ask, Limits, Note, Output, PortConfig, Role, SendRefusal, SystemConfig,
 };
 use clnp_machine::clnp_views::Frame;
-use clnp_machine::esis_tables::Place;
+use clnp_machine::esis_tables::Neighbour;
 use clnp_machine::forwarding::Routes;
 use clnp_machine::nsap::Address;
 use clnp_machine::pdu_header::Kind;
 use clnp_machine::segmenter::Cuts;
+use clnp_machine::way::{Hop, Way};
 use esis_entity::EsisEntity;
-use local_entity::{Hop, Local};
+use local_entity::Local;
 use std::alloc::Global;
 use std::marker::Model;
 
@@ -173,14 +173,14 @@ impl SystemEntity {
     pub fn frame(
         &mut self,
         alloc: Global,
-        place: Place,
+        neighbour: Neighbour,
         group: bool,
         frame: &Frame,
         out: &mut Vec<Output>,
     ) -> Result<Arrival, NoMemory>
         requires few { length frame.now ≤ 70000 }
         ensures comes { IfOk result (λ arrival. (s : SystemState) (content : Content) → Stands self.old s → IsCarried content
-            → frame_of content ≡ frame.now → ComesOf arrival s place group content self.new out.old.items out.new.items) }
+            → frame_of content ≡ frame.now → ComesOf arrival s neighbour group content self.new out.old.items out.new.items) }
         ensures left { IfOk result (λ arrival. LeavesAsItWas arrival self.old self.new out.old.items out.new.items) }
         ensures pdu { IfOk result (λ arrival. TellsPdu arrival frame.now) }
         ensures not_spent { OnOk result (self.new.spent ≡ false) }
@@ -196,7 +196,7 @@ impl SystemEntity {
         }
         has_content(frame);
         self.spent = true;
-        let arrival = self.arrive(alloc, place, group, frame, out)?;
+        let arrival = self.arrive(alloc, neighbour, group, frame, out)?;
         self.spent = false;
         Ok(arrival)
     }
@@ -217,10 +217,11 @@ impl SystemEntity {
     ) -> Result<(), NoMemory>
         requires few { length frame.now ≤ 70000 }
         ensures stands { OnOk result ((s : SystemState) (content : Content) → Stands self.old s → IsCarried content
-            → frame_of content ≡ frame.now → Stands self.new (machine.discard s content reason place).after) }
+            → frame_of content ≡ frame.now → Stands self.new (locally.discard s content reason place).after) }
         ensures outputs { OnOk result ((s : SystemState) (content : Content) → Stands self.old s → IsCarried content
             → frame_of content ≡ frame.now
-            → Appends s.moment out.old.items out.new.items (effect_of (machine.discard s content reason place)).outputs) }
+            → Appends s.moment None out.old.items out.new.items
+            (effect_of (locally.discard s content reason place)).outputs) }
         ensures none { OnErr result (out.new.items ≡ out.old.items) }
         ensures spent { OnErr result (self.new.spent ≡ true) }
         ensures refused { self.old.spent ≡ true → IsErr result }
@@ -282,14 +283,15 @@ impl SystemEntity {
     /// `NoMemory`: `out` is then as it was, and the entity is spent.
     pub fn redirect(
         &mut self,
-        place: Place,
+        neighbour: Neighbour,
         to: &Address,
         way: &Way,
         out: &mut Vec<Output>,
     ) -> Result<(), NoMemory>
         ensures given { OnOk result ((s : SystemState) (moment : ℕ) → s.configuration ≡ self.old.local.configuration
-            → Appends moment out.old.items out.new.items
-            (SendsEsis place.port (System place.snpa) (redirect s to.now way.now.snpa way.now.title) ∷ [])) }
+            → Appends moment None out.old.items out.new.items
+            (SendsEsis neighbour.port (System neighbour.snpa)
+            (redirect s to.now way.now.neighbour.snpa way.now.title) ∷ [])) }
         ensures same { OnOk result (self.new ≡ self.old) }
         ensures none { OnErr result (out.new.items ≡ out.old.items) }
         ensures spent { OnErr result (self.new.spent ≡ true) }
@@ -301,7 +303,7 @@ impl SystemEntity {
         if self.spent {
             return Err(NoMemory);
         }
-        match tell_way(self.local.config(), place, to, way, out) {
+        match tell_way(self.local.config(), neighbour, to, way, out) {
             Ok(()) => Ok(()),
             Err(_) => {
                 self.spent = true;
@@ -358,12 +360,13 @@ impl SystemEntity {
     ) -> Result<u64, SendRefusal>
         requires { FitsKind (is_report kind) (parameters ask.now.options) }
         ensures answer { (s : SystemState) → Stands self.old s → MatchResult result
-            (λ unit. (machine.refusal s (machine.unit_of s kind from to body.now ask.now) ≡ None) × (unit ≡ next_number s))
-            (λ e. IsWhy e (machine.refusal s (machine.unit_of s kind from to body.now ask.now))) }
+            (λ unit. (locally.refusal s (locally.unit_of s kind from to body.now ask.now) ≡ None) × (unit ≡ next_number s))
+            (λ e. IsWhy e (locally.refusal s (locally.unit_of s kind from to body.now ask.now))) }
         ensures stands { OnOk result ((s : SystemState) → Stands self.old s
-            → Stands self.new (machine.make s kind from to body.now ask.now).after) }
+            → Stands self.new (locally.make s kind from to body.now ask.now).after) }
         ensures outputs { OnOk result ((s : SystemState) → Stands self.old s
-            → Appends s.moment out.old.items out.new.items (effect_of (machine.make s kind from to body.now ask.now)).outputs) }
+            → Appends s.moment None out.old.items out.new.items
+            (effect_of (locally.make s kind from to body.now ask.now)).outputs) }
         ensures none { OnErr result (out.new.items ≡ out.old.items) }
         ensures left { IfErr result (λ e. IsLeftBy e self.old self.new) }
         ensures refused { self.old.spent ≡ true → result ≡ Err WantsMemory }
@@ -403,12 +406,13 @@ impl SystemEntity {
         out: &mut Vec<Output>,
     ) -> Result<u64, SendRefusal>
         ensures answer { (s : SystemState) → Stands self.old s → MatchResult result
-            (λ unit. (machine.refusal s (machine.request_unit s from to body.now) ≡ None) × (unit ≡ next_number s))
-            (λ e. IsWhy e (machine.refusal s (machine.request_unit s from to body.now))) }
+            (λ unit. (locally.refusal s (locally.request_unit s from to body.now) ≡ None) × (unit ≡ next_number s))
+            (λ e. IsWhy e (locally.refusal s (locally.request_unit s from to body.now))) }
         ensures stands { OnOk result ((s : SystemState) → Stands self.old s
-            → Stands self.new (machine.requests_echo s from to body.now).after) }
+            → Stands self.new (locally.requests_echo s from to body.now).after) }
         ensures outputs { OnOk result ((s : SystemState) → Stands self.old s
-            → Appends s.moment out.old.items out.new.items (effect_of (machine.requests_echo s from to body.now)).outputs) }
+            → Appends s.moment None out.old.items out.new.items
+            (effect_of (locally.requests_echo s from to body.now)).outputs) }
         ensures none { OnErr result (out.new.items ≡ out.old.items) }
         ensures left { IfErr result (λ e. IsLeftBy e self.old self.new) }
         ensures refused { self.old.spent ≡ true → result ≡ Err WantsMemory }
@@ -469,10 +473,11 @@ impl SystemEntity {
     /// The way of a router to an address: to the end system of this address, where it heard of it, else by the route with
     /// the most digits among those that cover the address (ISO/IEC 8473, section 6.5).
     pub fn way(&self, to: &Address) -> Option<Way>
-        ensures { (s : SystemState) (before : ℕ) → PartsStandSince before self.now s → way_option result ≡ way_of s to.now }
+        ensures { (s : SystemState) (before : ℕ) → PartsStandSince before self.now s
+            → result ≡ way_of s to.now }
     {
-        if let Some(place) = self.esis.neighbour(self.moment, to) {
-            return Some(to_neighbour(place));
+        if let Some(neighbour) = self.esis.neighbour(self.moment, to) {
+            return Some(to_neighbour(neighbour));
         }
         let Some(route) = self.routes.longest(to) else {
             return None;
@@ -481,16 +486,17 @@ impl SystemEntity {
     }
 
     /// Where the end system of an address is, if it is known.
-    pub fn neighbour(&self, of: &Address) -> Option<Place>
+    pub fn neighbour(&self, of: &Address) -> Option<Neighbour>
         ensures { (s : SystemState) (before : ℕ) → PartsStandSince before self.now s
-            → result ≡ current_place s.moment Es of.now s.facts }
+            → result ≡ current_neighbour s.moment Es of.now s.facts }
     {
         self.esis.neighbour(self.moment, of)
     }
 
     /// Where it sends a PDU for an address, if it knows a way (ISO 9542, section 6.5).
     pub fn next_hop(&self, to: &Address) -> Option<Hop>
-        ensures { (s : SystemState) (before : ℕ) → PartsStandSince before self.now s → hop_option result ≡ next_hop s to.now }
+        ensures { (s : SystemState) (before : ℕ) → PartsStandSince before self.now s
+            → result ≡ next_hop s to.now }
     {
         match self.local.config().role() {
             Role::Host => Some(host_hop(self.esis.next_hop(self.moment, to))),

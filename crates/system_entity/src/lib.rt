@@ -10,4 +10,3 @@ mod way;
 pub use entity::{Arrival, SystemEntity};
 pub use input::Input;
 pub use passing::Passing;
-pub use way::Way;

@@ -1,75 +1,44 @@
-//! Where a system sends.
-ghost use Rattle.std.specs.Prelude.{◌≡◌, Some};
-ghost use Rattle.clnp_machine.specs.Step as machine;
-ghost use Rattle.local_entity.specs.Sending.{machine_hop};
-ghost use Rattle.system_entity.specs.Ways.{machine_way};
+//! Where a system sends, by what it heard and by its routes.
+ghost use Rattle.std.specs.Prelude.{◌≡◌};
+ghost use Rattle.clnp_machine.specs.Step as step;
 
-use clnp_machine::esis_tables::Place;
+use clnp_machine::esis_tables::Neighbour;
 use clnp_machine::forwarding::Route;
-use clnp_machine::nsap::{Address, Snpa, Target};
-use local_entity::Hop;
-
-/// The next system on a router's way to an address: one's port to its subnetwork, its address there, and its title where it is
-/// reached by a route.
-#[derive(Clone, Copy, PartialEq, Eq)]
-pub struct Way {
-    pub port: u8,
-    pub snpa: Snpa,
-    pub title: Option<Address>,
-}
-
-impl Way {
-    /// The hop to the next system.
-    pub fn hop(&self) -> Hop
-        ensures { machine_hop result ≡ machine.hop_by (machine_way self.now) }
-    {
-        Hop {
-            port: self.port,
-            target: Target::System(self.snpa),
-        }
-    }
-
-    /// Whether the next system on it is that of an address itself: a neighbour, or a router of this title.
-    pub fn ends_at(&self, address: &Address) -> bool
-        ensures { result ≡ machine.ends_at address.now self.now.title }
-    {
-        match self.title {
-            Some(title) => title == *address,
-            None => true,
-        }
-    }
-}
+use clnp_machine::nsap::Target;
+use clnp_machine::way::{Hop, Way};
 
 /// The way to an end system that was heard of.
-pub(crate) fn to_neighbour(place: Place) -> Way
-    ensures { machine_way result ≡ machine.to_neighbour place }
+pub(crate) fn to_neighbour(neighbour: Neighbour) -> Way
+    ensures { result ≡ step.to_neighbour neighbour }
 {
     Way {
-        port: place.port,
-        snpa: place.snpa,
+        neighbour,
         title: None,
     }
 }
 
 /// The way by a route.
 pub(crate) fn by_route(route: &Route) -> Way
-    ensures { machine_way result ≡ machine.by_route route.now }
+    ensures { result ≡ step.by_route route.now }
 {
-    Way {
+    let neighbour = Neighbour {
         port: route.port,
         snpa: route.snpa,
+    };
+    Way {
+        neighbour,
         title: Some(route.title),
     }
 }
 
 /// Where a host sends what is for a place, or else for a system that it knows no place of (ISO 9542, section 6.5).
-pub(crate) fn host_hop(place: Option<Place>) -> Hop
-    ensures { machine_hop result ≡ machine.host_hop place }
+pub(crate) fn host_hop(neighbour: Option<Neighbour>) -> Hop
+    ensures { result ≡ step.host_hop neighbour }
 {
-    match place {
-        Some(place) => Hop {
-            port: place.port,
-            target: Target::System(place.snpa),
+    match neighbour {
+        Some(neighbour) => Hop {
+            port: neighbour.port,
+            target: Target::System(neighbour.snpa),
         },
         None => Hop {
             port: 0,

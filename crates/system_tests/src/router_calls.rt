@@ -4,11 +4,12 @@ use crate::network::{
 };
 use clnp_machine::clnp_plan::{Limits, Output, Role, SystemConfig};
 use clnp_machine::clnp_views::Frame;
+use clnp_machine::esis_tables::Neighbour;
 use clnp_machine::nsap::{Snpa, Target};
+use clnp_machine::way::Way;
 use clnp_systems::router::Router;
 use std::alloc::Global;
 use std::process::Abort;
-use system_entity::Way;
 
 /// The host at the end of the router's route.
 fn end_of_the_route(rt: &impl Abort) -> Snpa {
@@ -86,9 +87,12 @@ fn see_router(rt: &impl Abort, router: &Router) {
     assert!(rt; router.held() == 0);
     assert!(rt; router.moment() == 1);
     assert!(rt; router.config().name() == b"r".as_slice());
-    let way = Way {
+    let neighbour = Neighbour {
         port: 0,
         snpa: end_of_the_route(rt),
+    };
+    let way = Way {
+        neighbour,
         title: Some(address(rt, 1)),
     };
     assert!(rt; router.next_hop(&address(rt, 1)) == Some(way));

@@ -3,7 +3,7 @@
 ghost use Rattle.std.specs.Prelude.{◌≡◌, ◌<◌, IfOk, OnOk, length, slice_set, vec_len};
 ghost use Rattle.std.specs.List.{range_with_len};
 ghost use Rattle.clnp_machine.specs.ClnpPlan.Configuration.{IsWithin};
-ghost use Rattle.clnp_network.specs.World as network;
+ghost use Rattle.clnp_network.specs.LabelledNetwork as network;
 ghost use Rattle.clnp_world.specs.Changing.{MovesPort, RemovesRoute, SetsRoute, TakesMtu};
 ghost use Rattle.clnp_world.specs.Parts.{Changes, Follows, Holds, IsRunning};
 
@@ -31,7 +31,7 @@ impl Network {
         lines: &mut Lines,
     ) -> Result<(), NoMemory>
         requires { IsRunning self.old }
-        ensures { OnOk result ((model : network.World) → Holds self.old model
+        ensures { OnOk result ((model : network.LabelledNetwork) → Holds self.old model
             → Follows self.new lines.old lines.new (network.moves_port subnets.now model place number subnet snpa)) }
     {
         let at = usize::from(subnet);
@@ -65,7 +65,7 @@ impl Network {
         route: Route,
         lines: &mut Lines,
     ) -> Result<(), NoMemory>
-        ensures { OnOk result ((model : network.World) → Holds self.old model
+        ensures { OnOk result ((model : network.LabelledNetwork) → Holds self.old model
             → Follows self.new lines.old lines.new (network.sets_route model place route)) }
     {
         if place >= self.systems.len() {
@@ -88,7 +88,7 @@ impl Network {
         prefix: &Prefix,
         lines: &mut Lines,
     ) -> Result<(), NoMemory>
-        ensures { OnOk result ((model : network.World) → Holds self.old model
+        ensures { OnOk result ((model : network.LabelledNetwork) → Holds self.old model
             → Follows self.new lines.old lines.new (network.removes_route model place prefix.now)) }
     {
         if place >= self.systems.len() {
@@ -115,7 +115,7 @@ impl Network {
         lines: &mut Lines,
     ) -> Result<(), NoMemory>
         requires { IsWithin 512 65535 mtu }
-        ensures { OnOk result ((model : network.World) → Holds self.old model
+        ensures { OnOk result ((model : network.LabelledNetwork) → Holds self.old model
             → Follows self.new lines.old lines.new (network.resizes subnets.now model subnet mtu)) }
     {
         let at = usize::from(subnet);

@@ -1,7 +1,7 @@
 //! What comes to the systems.
 ghost use Rattle.std.specs.Prelude.{◌≡◌, ◌≤◌, [], IfOk, OnOk, Some, slice_get, vec_len};
 ghost use Rattle.clnp_machine.specs.Content.{Content};
-ghost use Rattle.clnp_network.specs.World as network;
+ghost use Rattle.clnp_network.specs.LabelledNetwork as network;
 ghost use Rattle.clnp_systems.specs.Stands.{entity_of};
 ghost use Rattle.clnp_systems.specs.SystemEntity.Steps.{Carries, MayCome, input_with};
 ghost use Rattle.clnp_systems.specs.declared.system.System.{System};
@@ -31,8 +31,9 @@ impl Network {
         input: &Input<'_>,
         lines: &mut Lines,
     ) -> Result<(), NoMemory>
-        requires { (system : System) → slice_get self.old.systems.items place ≡ Some system → MayCome (entity_of system).moment input.now }
-        ensures follows { OnOk result ((model : network.World) (content : Content) → Holds self.old model → Carries input.now content
+        requires { (system : System) → slice_get self.old.systems.items place ≡ Some system
+            → MayCome (entity_of system).moment input.now }
+        ensures follows { OnOk result ((model : network.LabelledNetwork) (content : Content) → Holds self.old model → Carries input.now content
             → IsMadeWithUnit came content → IsTimely model place (input_with content input.now)
             → Follows self.new lines.old lines.new (network.comes model place (input_with content input.now))) }
         ensures systems { vec_len self.new.systems ≡ vec_len self.old.systems }

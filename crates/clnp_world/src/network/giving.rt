@@ -1,7 +1,7 @@
 //! Copies that are given to the systems that they are for.
 ghost use Rattle.std.specs.Prelude.{◌≡◌, ◌+◌, ◌<◌, ◌≤◌, ◌∷◌, [], OnOk, Some, slice_get, vec_len};
 ghost use Rattle.clnp_machine.specs.System.{SystemState};
-ghost use Rattle.clnp_network.specs.World as network;
+ghost use Rattle.clnp_network.specs.LabelledNetwork as network;
 ghost use Rattle.clnp_machine.specs.ClnpPlan.Journal.{Late, Received, Void};
 ghost use Rattle.clnp_world.specs.Lines.{Gains};
 ghost use Rattle.clnp_world.specs.Parts.{Follows, Holds, IsRunning, Shows};
@@ -29,7 +29,7 @@ impl Network {
         lines: &mut Lines,
     ) -> Result<(), NoMemory>
         requires { IsRunning self.old }
-        ensures { OnOk result ((model : network.World) → Holds self.old model
+        ensures { OnOk result ((model : network.LabelledNetwork) → Holds self.old model
             → Follows self.new lines.old lines.new (network.deliver limits model number place)) }
     {
         if place >= self.systems.len() {
@@ -53,7 +53,7 @@ impl Network {
         lines: &mut Lines,
     ) -> Result<(), NoMemory>
         requires { IsRunning self.old }
-        ensures { OnOk result ((model : network.World) → Holds self.old model
+        ensures { OnOk result ((model : network.LabelledNetwork) → Holds self.old model
             → Follows self.new lines.old lines.new (network.settle_one limits model)) }
     {
         let at = self.cursor;
@@ -74,7 +74,7 @@ impl Network {
     ) -> Result<(), NoMemory>
         requires at_in { at < vec_len self.old.copies }
         requires running { IsRunning self.old }
-        ensures { OnOk result ((model : network.World) (copy : network.Copy) → Holds self.old model
+        ensures { OnOk result ((model : network.LabelledNetwork) (copy : network.Copy) → Holds self.old model
             → slice_get model.copies at ≡ Some copy
             → Follows self.new lines.old lines.new
             (network.settle_for limits (record { number = at + 1; copy = copy }) model (network.addressees_from 0 copy model.systems))) }
@@ -97,7 +97,7 @@ impl Network {
     fn port_for(&self, at: usize, place: usize) -> Option<u8>
         requires at_in { at < vec_len self.now.copies }
         requires place_in { place < vec_len self.now.systems }
-        ensures { (model : network.World) (copy : network.Copy) (system : SystemState) → Shows self.now model
+        ensures { (model : network.LabelledNetwork) (copy : network.Copy) (system : SystemState) → Shows self.now model
             → slice_get model.copies at ≡ Some copy → slice_get model.systems place ≡ Some system
             → IsPortFor copy system result }
     {
@@ -120,7 +120,7 @@ impl Network {
         requires at_in { at < vec_len self.old.copies }
         requires place_in { place < vec_len self.old.systems }
         requires running { IsRunning self.old }
-        ensures follows { OnOk result ((model : network.World) (copy : network.Copy) (system : SystemState) → Holds self.old model
+        ensures follows { OnOk result ((model : network.LabelledNetwork) (copy : network.Copy) (system : SystemState) → Holds self.old model
             → slice_get model.copies at ≡ Some copy → slice_get model.systems place ≡ Some system
             → port ≡ network.first_port copy system.configuration.role system.attached.ports
             → Follows self.new lines.old lines.new (network.give limits (record { number = number; copy = copy }) model place)) }
@@ -149,7 +149,8 @@ impl Network {
     /// Whether a copy is older, by its maker's clock, than one may be that is given.
     fn is_late(&self, limits: Limits, at: usize) -> bool
         requires { at < vec_len self.now.copies }
-        ensures { (model : network.World) (copy : network.Copy) → Shows self.now model → slice_get model.copies at ≡ Some copy
+        ensures { (model : network.LabelledNetwork) (copy : network.Copy) → Shows self.now model
+            → slice_get model.copies at ≡ Some copy
             → result ≡ network.is_late limits model copy }
     {
         let origin = self.copies[at].origin;
@@ -158,7 +159,8 @@ impl Network {
 
     /// The clock by which what somebody made grows old: its maker's, and the network's for what came from outside.
     fn clock_of(&self, maker: Option<usize>) -> u64
-        ensures { (model : network.World) (by : Maker) → Shows self.now model → maker ≡ place_of by → result ≡ network.clock_of model by }
+        ensures { (model : network.LabelledNetwork) (by : Maker) → Shows self.now model → maker ≡ place_of by
+            → result ≡ network.clock_of model by }
     {
         let Some(place) = maker else {
             return self.clock;
@@ -179,7 +181,7 @@ impl Network {
         lines: &mut Lines,
     ) -> Result<(), NoMemory>
         requires { place < vec_len self.now.systems }
-        ensures { OnOk result ((model : network.World) (system : SystemState) → Shows self.now model
+        ensures { OnOk result ((model : network.LabelledNetwork) (system : SystemState) → Shows self.now model
             → slice_get model.systems place ≡ Some system
             → Gains lines.old lines.new (Received system.moment system.configuration.name number port ∷ [])) }
     {
@@ -196,7 +198,7 @@ impl Network {
         lines: &mut Lines,
     ) -> Result<(), NoMemory>
         requires { place < vec_len self.now.systems }
-        ensures { OnOk result ((model : network.World) (system : SystemState) → Shows self.now model
+        ensures { OnOk result ((model : network.LabelledNetwork) (system : SystemState) → Shows self.now model
             → slice_get model.systems place ≡ Some system
             → Gains lines.old lines.new (Void system.moment system.configuration.name number ∷ [])) }
     {
@@ -213,7 +215,7 @@ impl Network {
         lines: &mut Lines,
     ) -> Result<(), NoMemory>
         requires { place < vec_len self.now.systems }
-        ensures { OnOk result ((model : network.World) (system : SystemState) → Shows self.now model
+        ensures { OnOk result ((model : network.LabelledNetwork) (system : SystemState) → Shows self.now model
             → slice_get model.systems place ≡ Some system
             → Gains lines.old lines.new (Late system.moment system.configuration.name number ∷ [])) }
     {

@@ -1,7 +1,7 @@
 //! Frames that come from outside.
 ghost use Rattle.std.specs.Prelude.{◌≤◌, OnOk, length};
 ghost use Rattle.hex.specs.Hex.{IsBytes};
-ghost use Rattle.clnp_network.specs.World as network;
+ghost use Rattle.clnp_network.specs.LabelledNetwork as network;
 ghost use Rattle.clnp_world.specs.Parts.{Follows, Holds};
 
 use super::Network;
@@ -27,7 +27,7 @@ impl Network {
     ) -> Result<(), NoMemory>
         requires bytes { IsBytes octets.now }
         requires few { length octets.now ≤ 70000 }
-        ensures { OnOk result ((model : network.World) → Holds self.old model
+        ensures { OnOk result ((model : network.LabelledNetwork) → Holds self.old model
             → Follows self.new lines.old lines.new (network.injects subnets.now model subnet from to octets.now)) }
     {
         let place = usize::from(subnet);

@@ -2,7 +2,7 @@
 ghost use Rattle.std.specs.Prelude.{◌≡◌, ◌+◌, ◌<◌, ◌≤◌, ◌^◌, ℕ, List, ◌++◌, OnOk, OnErr, Some, length, slice_get, vec_len};
 ghost use Rattle.std.specs.List.{AllByRecursion, range_with_len};
 ghost use Rattle.clnp_machine.specs.System.{IsRestarted, IsCongested};
-ghost use Rattle.clnp_network.specs.World as network;
+ghost use Rattle.clnp_network.specs.LabelledNetwork as network;
 ghost use Rattle.clnp_world.specs.Lines.{both, tally};
 ghost use Rattle.clnp_world.specs.Parts.{Follows, FollowsIn, Holds, IsRunning, MayGoOn};
 ghost use Rattle.clnp_network.specs.Scenario.Scenario.{AsksFairly, InjectsInForm, IsSaid};
@@ -32,7 +32,7 @@ impl Network {
     ) -> Result<(), NoMemory>
         requires clock { self.old.clock + 1 < 2 ^ 62 }
         requires running { IsRunning self.old }
-        ensures follows { OnOk result ((model : network.World) → Holds self.old model
+        ensures follows { OnOk result ((model : network.LabelledNetwork) → Holds self.old model
             → FollowsIn telling self.new out.old.items out.new.items (network.after scenario.now model mv.now)) }
         ensures same { OnErr result (out.new.items ≡ out.old.items) }
     {
@@ -59,9 +59,9 @@ impl Network {
     ) -> Result<(), NoMemory>
         requires clock { self.old.clock + 1 < 2 ^ 62 }
         requires running { IsRunning self.old }
-        ensures follows { OnOk result ((model : network.World) → Holds self.old model
+        ensures follows { OnOk result ((model : network.LabelledNetwork) → Holds self.old model
             → Holds self.new (network.after scenario.now model mv.now).world) }
-        ensures counted { OnOk result ((model : network.World) → Holds self.old model
+        ensures counted { OnOk result ((model : network.LabelledNetwork) → Holds self.old model
             → counts.new ≡ both counts.old (tally (network.after scenario.now model mv.now).lines)) }
         ensures same { OnErr result (counts.new ≡ counts.old) }
     {
@@ -85,7 +85,7 @@ impl Network {
     ) -> Result<(), NoMemory>
         requires clock { self.old.clock + 1 < 2 ^ 62 }
         requires running { IsRunning self.old }
-        ensures { OnOk result ((model : network.World) → Holds self.old model
+        ensures { OnOk result ((model : network.LabelledNetwork) → Holds self.old model
             → Follows self.new lines.old lines.new (network.after scenario.now model mv.now)) }
     {
         // Its clause: each event asks of a system what may be asked of it, injects in its form, and says what may be said.
@@ -117,7 +117,7 @@ impl Network {
         requires fair { AllByRecursion AsksFairly events.now }
         requires injected { AllByRecursion (InjectsInForm (length subnets.now)) events.now }
         requires said { AllByRecursion IsSaid events.now }
-        ensures { OnOk result ((model : network.World) → Holds self.old model
+        ensures { OnOk result ((model : network.LabelledNetwork) → Holds self.old model
             → Follows self.new lines.old lines.new
             (network.event_happens subnets.now limits model (slice_get events.now place))) }
     {
@@ -140,7 +140,7 @@ impl Network {
         requires fair { AsksFairly event.now }
         requires injected { InjectsInForm (length subnets.now) event.now }
         requires said { IsSaid event.now }
-        ensures { OnOk result ((model : network.World) → Holds self.old model
+        ensures { OnOk result ((model : network.LabelledNetwork) → Holds self.old model
             → Follows self.new lines.old lines.new (network.event_happens subnets.now limits model (Some event.now))) }
     {
         match event {
@@ -195,7 +195,7 @@ impl Network {
 
     /// Passes over the copy at the cursor: it is given to nobody.
     fn lose_one(&mut self, alloc: Global, lines: &mut Lines) -> Result<(), NoMemory>
-        ensures { OnOk result ((model : network.World) → Holds self.old model
+        ensures { OnOk result ((model : network.LabelledNetwork) → Holds self.old model
             → Follows self.new lines.old lines.new (network.lose_one model)) }
     {
         if self.cursor >= self.copies.len() {
@@ -207,7 +207,7 @@ impl Network {
 
     /// Restarts the system at a place.
     fn restart(&mut self, alloc: Global, place: usize, lines: &mut Lines) -> Result<(), NoMemory>
-        ensures { OnOk result ((model : network.World) → Holds self.old model
+        ensures { OnOk result ((model : network.LabelledNetwork) → Holds self.old model
             → Follows self.new lines.old lines.new (network.comes model place IsRestarted)) }
     {
         names_of_inputs(None, None);
@@ -222,7 +222,7 @@ impl Network {
         on: bool,
         lines: &mut Lines,
     ) -> Result<(), NoMemory>
-        ensures { OnOk result ((model : network.World) → Holds self.old model
+        ensures { OnOk result ((model : network.LabelledNetwork) → Holds self.old model
             → Follows self.new lines.old lines.new (network.comes model place (IsCongested on))) }
     {
         names_of_inputs(None, None);
@@ -233,7 +233,7 @@ impl Network {
     fn tick_one(&mut self, alloc: Global, lines: &mut Lines) -> Result<(), NoMemory>
         requires clock { self.old.clock + 1 < 2 ^ 62 }
         requires running { IsRunning self.old }
-        ensures { OnOk result ((model : network.World) → Holds self.old model
+        ensures { OnOk result ((model : network.LabelledNetwork) → Holds self.old model
             → Follows self.new lines.old lines.new (network.tick_one model)) }
     {
         self.clock += 1;
@@ -243,8 +243,8 @@ impl Network {
     /// The clock of each system goes on, in the order of the declarations.
     fn tick_each(&mut self, alloc: Global, lines: &mut Lines) -> Result<(), NoMemory>
         requires clock { self.old.clock < 2 ^ 62 }
-        requires running { (model : network.World) × Holds self.old model × ((place : ℕ) → MayGoOn model place) }
-        ensures { OnOk result ((model : network.World) → Holds self.old model → ((place : ℕ) → MayGoOn model place)
+        requires running { (model : network.LabelledNetwork) × Holds self.old model × ((place : ℕ) → MayGoOn model place) }
+        ensures { OnOk result ((model : network.LabelledNetwork) → Holds self.old model → ((place : ℕ) → MayGoOn model place)
             → Follows self.new lines.old lines.new (network.tick_each model (range_with_len 0 (length model.systems)))) }
     {
         for place in 0..self.systems.len() {
@@ -262,7 +262,7 @@ impl Network {
     ) -> Result<(), NoMemory>
         requires clock { self.old.clock + 1 < 2 ^ 62 }
         requires running { IsRunning self.old }
-        ensures { OnOk result ((model : network.World) → Holds self.old model
+        ensures { OnOk result ((model : network.LabelledNetwork) → Holds self.old model
             → Follows self.new lines.old lines.new (network.tick_system model place)) }
     {
         if place >= self.systems.len() {
@@ -277,8 +277,8 @@ impl Network {
     fn go_on(&mut self, alloc: Global, place: usize, lines: &mut Lines) -> Result<(), NoMemory>
         requires place_in { place < vec_len self.old.systems }
         requires clock { self.old.clock < 2 ^ 62 }
-        requires running { (model : network.World) × Holds self.old model × MayGoOn model place }
-        ensures follows { OnOk result ((model : network.World) → Holds self.old model → MayGoOn model place
+        requires running { (model : network.LabelledNetwork) × Holds self.old model × MayGoOn model place }
+        ensures follows { OnOk result ((model : network.LabelledNetwork) → Holds self.old model → MayGoOn model place
             → Follows self.new lines.old lines.new (network.goes_on model place (slice_get model.systems place))) }
         ensures systems { vec_len self.new.systems ≡ vec_len self.old.systems }
         ensures clock { self.new.clock ≡ self.old.clock }

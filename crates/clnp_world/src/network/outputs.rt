@@ -1,12 +1,12 @@
 //! What systems give out: frames become copies on a subnetwork, and notes lines.
 ghost use Rattle.std.specs.Prelude.{◌≡◌, ◌+◌, ◌<◌, ◌≤◌, ◌^◌, if◌then◌else◌, List, [], ◌∷◌, IfNone, IfSome, OnOk, Some, length, slice_get, vec_len};
 ghost use Rattle.clnp_machine.specs.Content.{Content};
-ghost use Rattle.clnp_machine.specs.Given.{GiveAllFor, GivesFor};
+ghost use Rattle.clnp_machine.specs.Given.{GiveAll, Gives};
 ghost use Rattle.clnp_machine.specs.System as machine;
 ghost use Rattle.clnp_machine.specs.System.{SystemState};
 ghost use Rattle.clnp_machine.specs.Ways.{IsOwnWhereFirst};
 ghost use Rattle.std.specs.List.{AllByRecursion};
-ghost use Rattle.clnp_network.specs.World as network;
+ghost use Rattle.clnp_network.specs.LabelledNetwork as network;
 ghost use Rattle.clnp_machine.specs.ClnpPlan.Journal.{Noted, Transmitted};
 ghost use Rattle.clnp_world.specs.Lines.{Gains};
 ghost use Rattle.clnp_world.specs.Parts.{Puts, PutsCopies, Shows};
@@ -38,9 +38,9 @@ impl Network {
         lines: &mut Lines,
     ) -> Result<(), NoMemory>
         requires { place < vec_len self.old.systems }
-        ensures puts { OnOk result ((model : network.World) (system : SystemState) (content : Content) (others : List machine.Output)
+        ensures puts { OnOk result ((model : network.LabelledNetwork) (system : SystemState) (content : Content) (others : List machine.Output)
             → Shows self.old model → slice_get model.systems place ≡ Some system → IsMadeWithUnit came content
-            → AllByRecursion (IsOwnWhereFirst system) others → GiveAllFor system.moment content outputs.items others
+            → AllByRecursion (IsOwnWhereFirst system) others → GiveAll system.moment (Some content) outputs.items others
             → Puts self.new lines.old lines.new (network.put_all_out system model others)) }
         ensures systems { self.new.systems ≡ self.old.systems }
         ensures clock { self.new.clock ≡ self.old.clock }
@@ -63,9 +63,9 @@ impl Network {
         lines: &mut Lines,
     ) -> Result<(), NoMemory>
         requires { place < vec_len self.old.systems }
-        ensures puts { OnOk result ((model : network.World) (system : SystemState) (content : Content) (other : machine.Output)
+        ensures puts { OnOk result ((model : network.LabelledNetwork) (system : SystemState) (content : Content) (other : machine.Output)
             → Shows self.old model → slice_get model.systems place ≡ Some system → IsMadeWithUnit came content
-            → IsOwnWhereFirst system other → GivesFor system.moment content output.now other
+            → IsOwnWhereFirst system other → Gives system.moment (Some content) output.now other
             → Puts self.new lines.old lines.new (network.put_out system model other)) }
         ensures systems { self.new.systems ≡ self.old.systems }
         ensures clock { self.new.clock ≡ self.old.clock }
@@ -91,7 +91,7 @@ impl Network {
         lines: &mut Lines,
     ) -> Result<(), NoMemory>
         requires { place < vec_len self.now.systems }
-        ensures { OnOk result ((model : network.World) (system : SystemState) → Shows self.now model
+        ensures { OnOk result ((model : network.LabelledNetwork) (system : SystemState) → Shows self.now model
             → slice_get model.systems place ≡ Some system
             → Gains lines.old lines.new (Noted system.moment system.configuration.name note.now ∷ [])) }
     {
@@ -114,7 +114,7 @@ impl Network {
         lines: &mut Lines,
     ) -> Result<(), NoMemory>
         requires { place < vec_len self.now.systems }
-        ensures { OnOk result ((model : network.World) (system : SystemState) → Shows self.now model
+        ensures { OnOk result ((model : network.LabelledNetwork) (system : SystemState) → Shows self.now model
             → slice_get model.systems place ≡ Some system
             → Gains lines.old lines.new (Transmitted system.moment system.configuration.name
             (length model.copies + 1) port target frame.now ∷ [])) }
@@ -128,7 +128,8 @@ impl Network {
     /// The origin of a frame that the system at a place sends, where the frame that it was given has the origin `came`.
     fn origin_of(&self, place: usize, sending: &Sending, came: Origin) -> Origin
         requires { place < vec_len self.now.systems }
-        ensures { (model : network.World) (system : SystemState) → Shows self.now model → slice_get model.systems place ≡ Some system
+        ensures { (model : network.LabelledNetwork) (system : SystemState) → Shows self.now model
+            → slice_get model.systems place ≡ Some system
             → result ≡ (if sending.now.forwarded then came else record { maker = Some place; birth = system.moment }) }
     {
         // A unit ages on its whole way: the frame that goes on is as old as the one that came, whenever it is sent.
@@ -151,7 +152,7 @@ impl Network {
         frame: Frame,
     ) -> Result<(), NoMemory>
         requires { place < vec_len self.old.systems }
-        ensures puts { OnOk result ((model : network.World) (system : SystemState) → Shows self.old model
+        ensures puts { OnOk result ((model : network.LabelledNetwork) (system : SystemState) → Shows self.old model
             → slice_get model.systems place ≡ Some system
             → PutsCopies self.old self.new (frame_copies (slice_get system.attached.ports port) target origin frame)) }
         ensures others { self.new ≡ record self.old { copies = self.new.copies; weight = self.new.weight } }
@@ -189,7 +190,8 @@ impl Network {
     /// What the scenario says of the system at a place.
     pub(super) fn config_at(&self, place: usize) -> &SystemConfig
         requires { place < vec_len self.now.systems }
-        ensures { (model : network.World) (system : SystemState) → Shows self.now model → slice_get model.systems place ≡ Some system
+        ensures { (model : network.LabelledNetwork) (system : SystemState) → Shows self.now model
+            → slice_get model.systems place ≡ Some system
             → result.now ≡ system.configuration }
     {
         self.systems[place].config()
@@ -198,7 +200,8 @@ impl Network {
     /// The clock of the system at a place.
     pub(super) fn moment_at(&self, place: usize) -> u64
         requires { place < vec_len self.now.systems }
-        ensures moment { (model : network.World) (system : SystemState) → Shows self.now model → slice_get model.systems place ≡ Some system
+        ensures moment { (model : network.LabelledNetwork) (system : SystemState) → Shows self.now model
+            → slice_get model.systems place ≡ Some system
             → result ≡ system.moment }
         ensures within { result < 2 ^ 62 }
     {
@@ -208,7 +211,8 @@ impl Network {
     /// The ports of the system at a place, as they now are.
     pub(super) fn ports_at(&self, place: usize) -> &[PortConfig]
         requires { place < vec_len self.now.systems }
-        ensures ports { (model : network.World) (system : SystemState) → Shows self.now model → slice_get model.systems place ≡ Some system
+        ensures ports { (model : network.LabelledNetwork) (system : SystemState) → Shows self.now model
+            → slice_get model.systems place ≡ Some system
             → result.now ≡ system.attached.ports }
         ensures few { length result.now ≤ 8 }
     {

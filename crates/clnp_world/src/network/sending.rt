@@ -1,7 +1,7 @@
 //! Data units that a host is asked to send.
 ghost use Rattle.std.specs.Prelude.{OnOk, false};
 ghost use Rattle.clnp_machine.specs.System.{AsksForEcho, AsksToSend};
-ghost use Rattle.clnp_network.specs.World as network;
+ghost use Rattle.clnp_network.specs.LabelledNetwork as network;
 ghost use Rattle.clnp_machine.specs.ClnpOptions.Grammar.{FitsKind};
 ghost use Rattle.clnp_machine.specs.ClnpOptions.Parameter.{parameters};
 ghost use Rattle.clnp_world.specs.Parts.{Follows, Holds};
@@ -31,7 +31,7 @@ impl Network {
         lines: &mut Lines,
     ) -> Result<(), NoMemory>
         requires { FitsKind false (parameters ask.now.options) }
-        ensures { OnOk result ((model : network.World) → Holds self.old model
+        ensures { OnOk result ((model : network.LabelledNetwork) → Holds self.old model
             → Follows self.new lines.old lines.new
             (network.asks model place (AsksToSend from to (octets_of body.now) ask.now))) }
     {
@@ -51,7 +51,7 @@ impl Network {
         lines: &mut Lines,
     ) -> Result<(), NoMemory>
         requires { FitsKind false (parameters ask.now.options) }
-        ensures { OnOk result ((model : network.World) → Holds self.old model
+        ensures { OnOk result ((model : network.LabelledNetwork) → Holds self.old model
             → Follows self.new lines.old lines.new
             (network.asks model place (AsksToSend from to body.now ask.now))) }
     {
@@ -83,7 +83,7 @@ impl Network {
         body: &Body,
         lines: &mut Lines,
     ) -> Result<(), NoMemory>
-        ensures { OnOk result ((model : network.World) → Holds self.old model
+        ensures { OnOk result ((model : network.LabelledNetwork) → Holds self.old model
             → Follows self.new lines.old lines.new
             (network.comes model place (AsksForEcho from to (octets_of body.now)))) }
     {
@@ -101,7 +101,7 @@ impl Network {
         body: &[u8],
         lines: &mut Lines,
     ) -> Result<(), NoMemory>
-        ensures { OnOk result ((model : network.World) → Holds self.old model
+        ensures { OnOk result ((model : network.LabelledNetwork) → Holds self.old model
             → Follows self.new lines.old lines.new
             (network.comes model place (AsksForEcho from to body.now))) }
     {

@@ -1,5 +1,5 @@
 //! What a system hears of others (ISO 9542, sections 6.3, 6.4, 6.7 and 6.9).
-ghost use Rattle.std.specs.Prelude.{◌≡◌, ◌<◌, ◌^◌, ℕ, if◌then◌else◌, IfOk, OnOk};
+ghost use Rattle.std.specs.Prelude.{◌≡◌, ◌<◌, ◌^◌, ℕ, if◌then◌else◌, IfOk, OnOk, None};
 ghost use Rattle.clnp_machine.specs.ClnpOptions.Parameter.{parameters};
 ghost use Rattle.clnp_machine.specs.EsisPdus.Value.{suggested};
 ghost use Rattle.clnp_machine.specs.EsisPdus.View.{pdu_value};
@@ -16,7 +16,7 @@ use super::output::give_note;
 use clnp_machine::clnp_base::NoMemory;
 use clnp_machine::clnp_plan::{Note, Output, Role, SystemConfig};
 use clnp_machine::esis_pdus::{AddressList, EsisBody, EsisPdu};
-use clnp_machine::esis_tables::{Heard, Place, TableKind};
+use clnp_machine::esis_tables::{Heard, Neighbour, TableKind};
 use clnp_machine::nsap::{Address, Snpa};
 
 impl EsisEntity {
@@ -25,22 +25,22 @@ impl EsisEntity {
         &mut self,
         config: &SystemConfig,
         now: u64,
-        place: Place,
+        neighbour: Neighbour,
         pdu: EsisPdu<'_>,
         out: &mut Vec<Output>,
     ) -> Result<(), NoMemory>
         requires moment { now < 2 ^ 62 }
         requires timer { pdu.suggested ≡ suggested pdu.body (parameters pdu.options.now) }
         ensures stands { OnOk result ((s : SystemState) → Stands self.old s → s.configuration ≡ config.now
-            → s.moment ≡ now → Stands self.new (esis_comes s place (pdu_value pdu.entry)).after) }
+            → s.moment ≡ now → Stands self.new (esis_comes s neighbour (pdu_value pdu.entry)).after) }
         ensures outputs { OnOk result ((s : SystemState) → Stands self.old s → s.configuration ≡ config.now
             → s.moment ≡ now
-            → Appends now out.old.items out.new.items (esis_comes s place (pdu_value pdu.entry)).outputs) }
+            → Appends now None out.old.items out.new.items (esis_comes s neighbour (pdu_value pdu.entry)).outputs) }
         ensures front { StaysInFront out.old.items out.new.items }
     {
         match config.role() {
-            Role::Host => self.hear_as_host(config, now, place, pdu, out),
-            Role::Router => self.hear_as_router(config, now, place, pdu, out),
+            Role::Host => self.hear_as_host(config, now, neighbour, pdu, out),
+            Role::Router => self.hear_as_router(config, now, neighbour, pdu, out),
         }
     }
 
@@ -50,14 +50,14 @@ impl EsisEntity {
         &mut self,
         config: &SystemConfig,
         now: u64,
-        place: Place,
+        neighbour: Neighbour,
         pdu: EsisPdu<'_>,
         out: &mut Vec<Output>,
     ) -> Result<(), NoMemory>
         requires { now < 2 ^ 62 }
         ensures done { OnOk result ((s : SystemState) → Stands self.old s → s.configuration ≡ config.now → s.moment ≡ now
             → Does now self.new out.old.items out.new.items
-            (esis_heard Host s place pdu.entry.hold pdu.entry.body pdu.entry.suggested)) }
+            (esis_heard Host s neighbour pdu.entry.hold pdu.entry.body pdu.entry.suggested)) }
         ensures front { StaysInFront out.old.items out.new.items }
     {
         let EsisPdu {
@@ -68,15 +68,15 @@ impl EsisEntity {
         } = pdu;
         match body {
             EsisBody::Esh { addresses } => {
-                self.hear_each(now, &place, hold, addresses, out)?;
+                self.hear_each(now, &neighbour, hold, addresses, out)?;
                 Ok(())
             }
             EsisBody::Ish { title } => {
-                self.hear_router(config, now, &place, hold, title, out)?;
+                self.hear_router(config, now, &neighbour, hold, title, out)?;
                 self.follow(now, suggested);
                 Ok(())
             }
-            EsisBody::Rd { to, via, .. } => self.hear_redirect(now, &place, hold, to, via, out),
+            EsisBody::Rd { to, via, .. } => self.hear_redirect(now, &neighbour, hold, to, via, out),
         }
     }
 
@@ -85,20 +85,20 @@ impl EsisEntity {
         &mut self,
         config: &SystemConfig,
         now: u64,
-        place: Place,
+        neighbour: Neighbour,
         pdu: EsisPdu<'_>,
         out: &mut Vec<Output>,
     ) -> Result<(), NoMemory>
         requires { now < 2 ^ 62 }
         ensures done { OnOk result ((s : SystemState) → Stands self.old s → s.configuration ≡ config.now → s.moment ≡ now
             → Does now self.new out.old.items out.new.items
-            (esis_heard Router s place pdu.entry.hold pdu.entry.body pdu.entry.suggested)) }
+            (esis_heard Router s neighbour pdu.entry.hold pdu.entry.body pdu.entry.suggested)) }
         ensures front { StaysInFront out.old.items out.new.items }
     {
         let EsisPdu { hold, body, .. } = pdu;
         match body {
             EsisBody::Esh { addresses } => {
-                self.hear_end_system(config, now, &place, hold, addresses, out)
+                self.hear_end_system(config, now, &neighbour, hold, addresses, out)
             }
             EsisBody::Ish { .. } => give_note(Note::Ignored { rd: false }, out),
             EsisBody::Rd { .. } => give_note(Note::Ignored { rd: true }, out),
@@ -111,21 +111,21 @@ impl EsisEntity {
         &mut self,
         config: &SystemConfig,
         now: u64,
-        place: &Place,
+        neighbour: &Neighbour,
         hold: u16,
         title: Address,
         out: &mut Vec<Output>,
     ) -> Result<(), NoMemory>
         requires { now < 2 ^ 62 }
         ensures stands { OnOk result ((s : SystemState) → Stands self.old s → s.moment ≡ now
-            → Stands self.new (hears s Is title place.now hold).after) }
+            → Stands self.new (hears s Is title neighbour.now hold).after) }
         ensures outputs { OnOk result ((s : SystemState) → Stands self.old s → s.configuration ≡ config.now
-            → s.moment ≡ now → Appends now out.old.items out.new.items
-            (answers_new (hears s Is title place.now hold) place.now).outputs) }
+            → s.moment ≡ now → Appends now None out.old.items out.new.items
+            (answers_new (hears s Is title neighbour.now hold) neighbour.now).outputs) }
         ensures front { StaysInFront out.old.items out.new.items }
     {
-        let new = self.hear_key(now, TableKind::Is, title, place, hold, out)?;
-        self.answer(config, place, new, out)
+        let new = self.hear_key(now, TableKind::Is, title, neighbour, hold, out)?;
+        self.answer(config, neighbour, new, out)
     }
 
     /// Hears a redirect from an intermediate system that is known to be there, and ignores one from elsewhere (section 6.9).
@@ -133,7 +133,7 @@ impl EsisEntity {
     fn hear_redirect(
         &mut self,
         now: u64,
-        place: &Place,
+        neighbour: &Neighbour,
         hold: u16,
         to: Address,
         via: Snpa,
@@ -141,14 +141,14 @@ impl EsisEntity {
     ) -> Result<(), NoMemory>
         requires { now < 2 ^ 62 }
         ensures done { OnOk result ((s : SystemState) → Stands self.old s → s.moment ≡ now
-            → Does now self.new out.old.items out.new.items (redirect_heard Host s place.now hold to via)) }
+            → Does now self.new out.old.items out.new.items (redirect_heard Host s neighbour.now hold to via)) }
         ensures front { StaysInFront out.old.items out.new.items }
     {
-        if !self.tables.is_router(now, &place.snpa) {
+        if !self.tables.is_router(now, &neighbour.snpa) {
             return give_note(Note::Ignored { rd: true }, out);
         }
-        let better = Place {
-            port: place.port,
+        let better = Neighbour {
+            port: neighbour.port,
             snpa: via,
         };
         self.hear_key(now, TableKind::Rd, to, &better, hold, out)?;
@@ -161,7 +161,7 @@ impl EsisEntity {
         &mut self,
         config: &SystemConfig,
         now: u64,
-        place: &Place,
+        neighbour: &Neighbour,
         hold: u16,
         addresses: AddressList<'_>,
         out: &mut Vec<Output>,
@@ -169,11 +169,11 @@ impl EsisEntity {
         requires { now < 2 ^ 62 }
         ensures done { OnOk result ((s : SystemState) → Stands self.old s → s.configuration ≡ config.now → s.moment ≡ now
             → Does now self.new out.old.items out.new.items
-            (answers_new (hears_each s addresses.entry place.now hold) place.now)) }
+            (answers_new (hears_each s addresses.entry neighbour.now hold) neighbour.now)) }
         ensures front { StaysInFront out.old.items out.new.items }
     {
-        let new = self.hear_each(now, place, hold, addresses, out)?;
-        self.answer(config, place, new, out)
+        let new = self.hear_each(now, neighbour, hold, addresses, out)?;
+        self.answer(config, neighbour, new, out)
     }
 
     /// Hears each address of an end system, in order. Whether one of them is new.
@@ -181,19 +181,19 @@ impl EsisEntity {
     fn hear_each(
         &mut self,
         now: u64,
-        place: &Place,
+        neighbour: &Neighbour,
         hold: u16,
         addresses: AddressList<'_>,
         out: &mut Vec<Output>,
     ) -> Result<bool, NoMemory>
         requires { now < 2 ^ 62 }
         ensures heard { IfOk result (λ new. (s : SystemState) → Stands self.old s → s.moment ≡ now
-            → Hears now self.new out.old.items out.new.items new (hears_each s addresses.entry place.now hold)) }
+            → Hears now self.new out.old.items out.new.items new (hears_each s addresses.entry neighbour.now hold)) }
         ensures front { StaysInFront out.old.items out.new.items }
     {
         let mut new = false;
         for address in addresses {
-            new |= self.hear_key(now, TableKind::Es, address, place, hold, out)?;
+            new |= self.hear_key(now, TableKind::Es, address, neighbour, hold, out)?;
         }
         Ok(new)
     }
@@ -204,16 +204,16 @@ impl EsisEntity {
         now: u64,
         table: TableKind,
         key: Address,
-        place: &Place,
+        neighbour: &Neighbour,
         hold: u16,
         out: &mut Vec<Output>,
     ) -> Result<bool, NoMemory>
         requires { now < 2 ^ 62 }
         ensures heard { IfOk result (λ new. (s : SystemState) → Stands self.old s → s.moment ≡ now
-            → Hears now self.new out.old.items out.new.items new (hears s table key place.now hold)) }
+            → Hears now self.new out.old.items out.new.items new (hears s table key neighbour.now hold)) }
         ensures front { StaysInFront out.old.items out.new.items }
     {
-        let heard = self.tables.hear(now, table, key, *place, hold);
+        let heard = self.tables.hear(now, table, key, *neighbour, hold);
         give_note(Note::Hear { table, key, heard }, out)?;
         Ok(matches!(heard, Heard::New))
     }
@@ -222,17 +222,17 @@ impl EsisEntity {
     fn answer(
         &self,
         config: &SystemConfig,
-        place: &Place,
+        neighbour: &Neighbour,
         new: bool,
         out: &mut Vec<Output>,
     ) -> Result<(), NoMemory>
         ensures told { OnOk result ((s : SystemState) (moment : ℕ) → Stands self.now s → s.configuration ≡ config.now
-            → Appends moment out.old.items out.new.items
-            (if new then tells_of_itself s place.now.port place.now.snpa else idles s).outputs) }
+            → Appends moment None out.old.items out.new.items
+            (if new then tells_of_itself s neighbour.now.port neighbour.now.snpa else idles s).outputs) }
         ensures front { StaysInFront out.old.items out.new.items }
     {
         if new {
-            return self.tell(config, *place, out);
+            return self.tell(config, *neighbour, out);
         }
         Ok(())
     }

@@ -1,5 +1,5 @@
 //! What a system says of itself (ISO 9542, section 6.2).
-ghost use Rattle.std.specs.Prelude.{◌≡◌, ◌≤◌, OnOk, ℕ, length, slice_get};
+ghost use Rattle.std.specs.Prelude.{◌≡◌, ◌≤◌, OnOk, ℕ, length, slice_get, None};
 ghost use Rattle.clnp_machine.specs.Esis.{end_system_hello as esh_of, first_of, hearers as hearers_of, hello_everywhere, holding_time as holding_time_of, intermediate_system_hello as ish_of, own_hello, wish as wish_of};
 ghost use Rattle.clnp_machine.specs.Given.{Appends};
 ghost use Rattle.clnp_machine.specs.System.{SystemState};
@@ -22,7 +22,7 @@ pub(crate) fn say_everywhere(
     out: &mut Vec<Output>,
 ) -> Result<(), NoMemory>
     ensures said { OnOk result ((s : SystemState) (moment : ℕ) → s.configuration ≡ config.now → length s.attached.ports ≡ ports
-        → s.hello ≡ period → Appends moment out.old.items out.new.items (hello_everywhere s)) }
+        → s.hello ≡ period → Appends moment None out.old.items out.new.items (hello_everywhere s)) }
     ensures front { StaysInFront out.old.items out.new.items }
 {
     let pdu = hello(config, period);

@@ -1,5 +1,5 @@
 //! What is given out.
-ghost use Rattle.std.specs.Prelude.{◌≡◌, ◌∷◌, [], OnOk, OnErr, ℕ};
+ghost use Rattle.std.specs.Prelude.{◌≡◌, ◌∷◌, [], OnOk, OnErr, ℕ, None};
 ghost use Rattle.clnp_machine.specs.Given.{Appends};
 ghost use Rattle.clnp_machine.specs.System.{Notes, SendsEsis};
 ghost use Rattle.clnp_machine.specs.EsisPdus.Grammar.{Spells};
@@ -13,7 +13,7 @@ use clnp_machine::nsap::Target;
 
 /// Gives out a note.
 pub(crate) fn give_note(note: Note, out: &mut Vec<Output>) -> Result<(), NoMemory>
-    ensures given { OnOk result ((moment : ℕ) → Appends moment out.old.items out.new.items (Notes note ∷ [])) }
+    ensures given { OnOk result ((moment : ℕ) → Appends moment None out.old.items out.new.items (Notes note ∷ [])) }
     ensures front { StaysInFront out.old.items out.new.items }
 {
     out.push(Output::Note(note))?;
@@ -23,7 +23,7 @@ pub(crate) fn give_note(note: Note, out: &mut Vec<Output>) -> Result<(), NoMemor
 /// Gives out the frame of a PDU.
 pub(crate) fn send(port: u8, to: Target, pdu: Head, out: &mut Vec<Output>) -> Result<(), NoMemory>
     ensures given { OnOk result ((moment : ℕ) (value : EsisValue) → Spells value pdu
-        → Appends moment out.old.items out.new.items (SendsEsis port to value ∷ [])) }
+        → Appends moment None out.old.items out.new.items (SendsEsis port to value ∷ [])) }
     ensures none { OnErr result (out.new.items ≡ out.old.items) }
     ensures front { StaysInFront out.old.items out.new.items }
 {

@@ -1,8 +1,8 @@
 //! What a system does as time goes on (ISO 9542, sections 6.1, 6.2, 6.4 and 6.11).
-ghost use Rattle.std.specs.Prelude.{◌≡◌, ◌≤◌, ◌<◌, ◌^◌, ℕ, List, [], OnOk, length, map};
+ghost use Rattle.std.specs.Prelude.{◌≡◌, ◌≤◌, ◌<◌, ◌^◌, ℕ, List, [], OnOk, length, map, None};
 ghost use Rattle.clnp_machine.specs.EsisTables.Fact.{Fact};
 ghost use Rattle.clnp_machine.specs.EsisTables.Gone.{gone};
-ghost use Rattle.clnp_machine.specs.EsisTables.Stands as heard;
+ghost use Rattle.clnp_machine.specs.EsisTables.Stands as esis_tables;
 ghost use Rattle.clnp_machine.specs.EsisTables.Stands.{limits_of};
 ghost use Rattle.clnp_machine.specs.Esis.{forgets, gone_note, says_hello};
 ghost use Rattle.clnp_machine.specs.Given.{Appends};
@@ -19,11 +19,11 @@ use clnp_machine::esis_tables::{Gone, Tables, laws};
 
 /// Forgets what has ended, and notes each key.
 fn forget(tables: &mut Tables, now: u64, out: &mut Vec<Output>) -> Result<(), NoMemory>
-    ensures stands { OnOk result ((facts : List Fact) (before : ℕ) → heard.Stands tables.old facts before []
-        → before ≤ now → heard.Stands tables.new facts now []) }
+    ensures stands { OnOk result ((facts : List Fact) (before : ℕ) → esis_tables.Stands tables.old facts before []
+        → before ≤ now → esis_tables.Stands tables.new facts now []) }
     ensures limits { limits_of tables.new ≡ limits_of tables.old }
-    ensures outputs { OnOk result ((facts : List Fact) (before moment : ℕ) → heard.Stands tables.old facts before []
-        → before ≤ now → Appends moment out.old.items out.new.items (map gone_note (gone before now facts))) }
+    ensures outputs { OnOk result ((facts : List Fact) (before moment : ℕ) → esis_tables.Stands tables.old facts before []
+        → before ≤ now → Appends moment None out.old.items out.new.items (map gone_note (gone before now facts))) }
     ensures front { StaysInFront out.old.items out.new.items }
 {
     laws::time_goes_on();
@@ -50,7 +50,7 @@ impl EsisEntity {
             → Stands self.new (then_does (forgets before s) says_hello).after) }
         ensures outputs { OnOk result ((s : SystemState) (before : ℕ) → StandsSince before self.old s
             → s.configuration ≡ config.now → length s.attached.ports ≡ ports → s.moment ≡ now → before ≤ now
-            → Appends now out.old.items out.new.items (then_does (forgets before s) says_hello).outputs) }
+            → Appends now None out.old.items out.new.items (then_does (forgets before s) says_hello).outputs) }
         ensures front { StaysInFront out.old.items out.new.items }
     {
         forget(&mut self.tables, now, out)?;
@@ -67,7 +67,8 @@ impl EsisEntity {
     ) -> Result<(), NoMemory>
         requires { now < 2 ^ 62 }
         ensures said { OnOk result ((s : SystemState) → Stands self.old s → s.configuration ≡ config.now
-            → length s.attached.ports ≡ ports → s.moment ≡ now → Does now self.new out.old.items out.new.items (says_hello s)) }
+            → length s.attached.ports ≡ ports → s.moment ≡ now
+            → Does now self.new out.old.items out.new.items (says_hello s)) }
         ensures front { StaysInFront out.old.items out.new.items }
     {
         if self.period == 0 || now < self.next_hello {

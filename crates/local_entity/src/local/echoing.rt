@@ -2,7 +2,7 @@
 ghost use Rattle.std.specs.Prelude.{◌≡◌, ◌<◌, ◌^◌, false, OnOk, OnErr};
 ghost use Rattle.clnp_machine.specs.ClnpOptions.Grammar.{FitsKind};
 ghost use Rattle.clnp_machine.specs.ClnpOptions.Parameter.{parameters};
-ghost use Rattle.clnp_machine.specs.Local as machine;
+ghost use Rattle.clnp_machine.specs.Local as locally;
 ghost use Rattle.clnp_machine.specs.System.{SystemState};
 ghost use Rattle.local_entity.specs.Local.{Appends, Stands};
 
@@ -12,7 +12,6 @@ use crate::refusal::refusal_note;
 use clnp_machine::clnp_base::NoMemory;
 use clnp_machine::clnp_options::OptionList;
 use clnp_machine::clnp_plan::{Ask, Note};
-use clnp_machine::clnp_views::Frame;
 use clnp_machine::echo::needs_id;
 use clnp_machine::nsap::Address;
 use clnp_machine::pdu_header::Kind;
@@ -22,7 +21,7 @@ impl Local {
     /// How an echo request or reply with so many octets of data is sent: with the system's own lifetime, without options,
     /// and such that it may be segmented where not every subnetwork takes it in one piece.
     pub fn echo_ask(&self, from: &Address, to: &Address, len: usize, report: bool) -> Ask
-        ensures value { (s : SystemState) → Stands self.now s → result ≡ machine.echo_ask s from.now to.now len report }
+        ensures value { (s : SystemState) → Stands self.now s → result ≡ locally.echo_ask s from.now to.now len report }
         ensures options { FitsKind false (parameters result.options) }
     {
         Ask {
@@ -49,17 +48,16 @@ impl Local {
     ) -> Result<(), NoMemory>
         requires moment { now < 2 ^ 62 }
         ensures stands { OnOk result ((s : SystemState) → Stands self.old s → s.moment ≡ now
-            → Stands self.new (machine.replies s from to octets.now).after) }
+            → Stands self.new (locally.replies s from to octets.now).after) }
         ensures actions { OnOk result ((s : SystemState) → Stands self.old s → s.moment ≡ now
-            → Appends out.old.items out.new.items (machine.replies s from to octets.now).actions) }
+            → Appends out.old.items out.new.items (locally.replies s from to octets.now).actions) }
         ensures same { OnErr result (self.new ≡ self.old) }
         ensures none { OnErr result (out.new.items ≡ out.old.items) }
         ensures config { self.new.configuration ≡ self.old.configuration }
         ensures table { self.new.table ≡ self.old.table }
     {
-        let body = Frame::copy(alloc, octets)?.into_view();
         let ask = self.echo_ask(&to, &from, octets.len(), false);
-        match self.make(alloc, now, Kind::Erp, to, from, &body, &ask, out) {
+        match self.make(alloc, now, Kind::Erp, to, from, octets, &ask, out) {
             Ok(_) => Ok(()),
             Err(refusal) => {
                 let note = refusal_note(refusal)?;
@@ -82,9 +80,9 @@ impl Local {
         out: &mut Vec<Action>,
     ) -> Result<(), NoMemory>
         ensures stands { OnOk result ((s : SystemState) → Stands self.old s
-            → Stands self.new (machine.is_replied s from to octets.now).after) }
+            → Stands self.new (locally.is_replied s from to octets.now).after) }
         ensures actions { OnOk result ((s : SystemState) → Stands self.old s
-            → Appends out.old.items out.new.items (machine.is_replied s from to octets.now).actions) }
+            → Appends out.old.items out.new.items (locally.is_replied s from to octets.now).actions) }
         ensures same { OnErr result (self.new ≡ self.old) }
         ensures none { OnErr result (out.new.items ≡ out.old.items) }
         ensures config { self.new.configuration ≡ self.old.configuration }

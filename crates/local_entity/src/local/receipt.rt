@@ -8,7 +8,7 @@ ghost use Rattle.clnp_machine.specs.PduHeader.Value.{PduValue};
 ghost use Rattle.clnp_machine.specs.Reassembly.State.{IsReady};
 ghost use Rattle.clnp_machine.specs.Unit.{Packet, IsCarriable, wire};
 ghost use Rattle.clnp_machine.specs.System.{SystemState};
-ghost use Rattle.clnp_machine.specs.Local as machine;
+ghost use Rattle.clnp_machine.specs.Local as locally;
 ghost use Rattle.local_entity.specs.Local.{Appends, Stands};
 ghost use Rattle.local_entity.specs.Receipt.{purpose_of, segment_in, segment_part};
 
@@ -47,10 +47,10 @@ impl Local {
         requires alive { (v : PduValue) × (rest : List ℕ) × BeginsWith frame.now v rest × (1 ≤ v.lifetime) }
         requires ready { IsReady now self.old.table }
         ensures stands { OnOk result ((s : SystemState) (p : Packet) (following : List ℕ) → Stands self.old s → s.moment ≡ now
-            → IsCarriable p → frame.now ≡ wire p ++ following → Stands self.new (machine.receive s p following).after) }
+            → IsCarriable p → frame.now ≡ wire p ++ following → Stands self.new (locally.receive s p following).after) }
         ensures actions { OnOk result ((s : SystemState) (p : Packet) (following : List ℕ) → Stands self.old s → s.moment ≡ now
             → IsCarriable p → frame.now ≡ wire p ++ following
-            → Appends out.old.items out.new.items (machine.receive s p following).actions) }
+            → Appends out.old.items out.new.items (locally.receive s p following).actions) }
         ensures same { OnErr result (self.new ≡ self.old) }
         ensures none { OnErr result (out.new.items ≡ out.old.items) }
         ensures config { self.new.configuration ≡ self.old.configuration }
@@ -88,10 +88,11 @@ impl Local {
     ) -> Result<(), NoMemory>
         requires moment { now < 2 ^ 62 }
         ensures stands { OnOk result ((s : SystemState) (kind : KindOf) (options : List Parameter) → Stands self.old s
-            → s.moment ≡ now → purpose ≡ purpose_of kind options → Stands self.new (machine.hand_up s kind from to octets options).after) }
+            → s.moment ≡ now → purpose ≡ purpose_of kind options
+            → Stands self.new (locally.hand_up s kind from to octets options).after) }
         ensures actions { OnOk result ((s : SystemState) (kind : KindOf) (options : List Parameter) → Stands self.old s
             → s.moment ≡ now → purpose ≡ purpose_of kind options
-            → Appends out.old.items out.new.items (machine.hand_up s kind from to octets options).actions) }
+            → Appends out.old.items out.new.items (locally.hand_up s kind from to octets options).actions) }
         ensures same { OnErr result (self.new ≡ self.old) }
         ensures none { OnErr result (out.new.items ≡ out.old.items) }
         ensures config { self.new.configuration ≡ self.old.configuration }

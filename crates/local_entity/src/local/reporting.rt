@@ -2,7 +2,7 @@
 ghost use Rattle.std.specs.Prelude.{◌≡◌, ◌<◌, ◌≤◌, ◌+◌, ◌^◌, List, ℕ, OnOk, OnErr, IfSome, length, vec_capacity, vec_len};
 ghost use Rattle.clnp_machine.specs.ClnpViews.Extent.{seen};
 ghost use Rattle.clnp_machine.specs.Content.{Content, IsCarried, frame_of};
-ghost use Rattle.clnp_machine.specs.Local as machine;
+ghost use Rattle.clnp_machine.specs.Local as locally;
 ghost use Rattle.clnp_machine.specs.System.{SystemState};
 ghost use Rattle.local_entity.specs.Local.{Appends, Stands};
 ghost use Rattle.local_entity.specs.Reporting.{IsReport};
@@ -36,10 +36,11 @@ impl Local {
         requires moment { now < 2 ^ 62 }
         requires few { length frame.now ≤ 70000 }
         ensures stands { OnOk result ((s : SystemState) (content : Content) → Stands self.old s → s.moment ≡ now
-            → IsCarried content → frame_of content ≡ frame.now → Stands self.new (machine.discard s content reason place).after) }
+            → IsCarried content → frame_of content ≡ frame.now
+            → Stands self.new (locally.discard s content reason place).after) }
         ensures actions { OnOk result ((s : SystemState) (content : Content) → Stands self.old s → s.moment ≡ now
             → IsCarried content → frame_of content ≡ frame.now
-            → Appends out.old.items out.new.items (machine.discard s content reason place).actions) }
+            → Appends out.old.items out.new.items (locally.discard s content reason place).actions) }
         ensures same { OnErr result (self.new ≡ self.old) }
         ensures none { OnErr result (out.new.items ≡ out.old.items) }
         ensures config { self.new.configuration ≡ self.old.configuration }
@@ -63,9 +64,9 @@ impl Local {
     )
         requires { vec_len out.old + 3 ≤ vec_capacity out.old }
         ensures stands { (s : SystemState) (content : Content) → Stands self.old s → frame_of content ≡ seen frame
-            → Stands self.new (machine.discard s content reason place).after }
+            → Stands self.new (locally.discard s content reason place).after }
         ensures actions { (s : SystemState) (content : Content) → Stands self.old s → frame_of content ≡ seen frame
-            → Appends out.old.items out.new.items (machine.discard s content reason place).actions }
+            → Appends out.old.items out.new.items (locally.discard s content reason place).actions }
         ensures config { self.new.configuration ≡ self.old.configuration }
         ensures table { self.new.table ≡ self.old.table }
         ensures len { vec_len out.new ≤ vec_len out.old + 3 }

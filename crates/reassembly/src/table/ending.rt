@@ -23,7 +23,8 @@ impl Table {
     /// Takes a whole buffer out.
     pub fn release(&mut self, slot: SlotNo)
         requires { IsWholeSlot self.old slot.0 }
-        ensures stands { (buffers : List (Buffer Extent)) (key : Key) → Stands self.old buffers → Names self.old slot.0 key
+        ensures stands { (buffers : List (Buffer Extent)) (key : Key) → Stands self.old buffers
+            → Names self.old slot.0 key
             → Stands self.new (buffer.without key buffers) }
         ensures none_whole { IsCompleted self.old slot.0 → HasNoWhole self.new }
         ensures slots { SlotsStay self.old self.new }
@@ -37,7 +38,8 @@ impl Table {
     /// table is as it was before it came.
     pub fn undo(&mut self, slot: SlotNo)
         requires { IsWholeSlot self.old slot.0 }
-        ensures stands { (buffers : List (Buffer Extent)) (key : Key) → Stands self.old buffers → Names self.old slot.0 key
+        ensures stands { (buffers : List (Buffer Extent)) (key : Key) → Stands self.old buffers
+            → Names self.old slot.0 key
             → Stands self.new (buffer.undone key buffers) }
         ensures none_whole { IsCompleted self.old slot.0 → HasNoWhole self.new }
         ensures as_before { (before : TableState) (now : ℕ) (segment : Segment) → IsKept now segment before self.old
@@ -86,9 +88,11 @@ impl Table {
     /// Takes the buffer at a place out, and gives the PDU of its earliest segment at the beginning of the unit.
     fn take_out(&mut self, place: usize) -> Option<View>
         requires { place < length self.old.openings }
-        ensures stands { (buffers : List (Buffer Extent)) (key : Key) → Stands self.old buffers → IsAt self.old place key
+        ensures stands { (buffers : List (Buffer Extent)) (key : Key) → Stands self.old buffers
+            → IsAt self.old place key
             → Stands self.new (buffer.without key buffers) }
-        ensures first { (buffers : List (Buffer Extent)) (taken : Buffer Extent) → Stands self.old buffers → IsAt self.old place taken.key
+        ensures first { (buffers : List (Buffer Extent)) (taken : Buffer Extent) → Stands self.old buffers
+            → IsAt self.old place taken.key
             → buffer.buffer_of taken.key buffers ≡ Some taken → result ≡ buffer.first_carried taken }
         ensures slots { SlotsStay self.old self.new }
         ensures limits { self.new.limits ≡ self.old.limits }

@@ -19,7 +19,8 @@ impl SystemEntity {
     /// Its ports, by their numbers from 0: as many as were declared.
     pub fn ports(&self) -> &[PortConfig]
         ensures ports { result.now ≡ self.now.ports }
-        ensures stands { (s : SystemState) (before : ℕ) → PartsStandSince before self.now s → result.now ≡ s.attached.ports }
+        ensures stands { (s : SystemState) (before : ℕ) → PartsStandSince before self.now s
+            → result.now ≡ s.attached.ports }
         ensures each { AllByRecursion IsPort result.now }
         ensures few { IsWithin 1 8 (length result.now) }
         ensures number { length result.now ≡ length self.now.local.configuration.ports }
@@ -42,7 +43,8 @@ impl SystemEntity {
         requires there { port < length self.old.ports }
         requires transit { 1 ≤ config.transit }
         requires mtu { 512 ≤ config.mtu }
-        ensures stands { (s : SystemState) → Stands self.old s → Stands self.new (step s (IsChanged (PortIsAt port config))).after }
+        ensures stands { (s : SystemState) → Stands self.old s
+            → Stands self.new (step s (IsChanged (PortIsAt port config))).after }
         ensures set { self.new ≡ record self.old {
           ports = slice_set self.old.ports port config;
           esis = record self.old.esis { next_hello = self.old.moment };
@@ -60,7 +62,8 @@ impl SystemEntity {
     pub fn set_mtu(&mut self, port: u8, mtu: u16)
         requires there { port < length self.old.ports }
         requires mtu { 512 ≤ mtu }
-        ensures stands { (s : SystemState) → Stands self.old s → Stands self.new (step s (IsChanged (PortTakes port mtu))).after }
+        ensures stands { (s : SystemState) → Stands self.old s
+            → Stands self.new (step s (IsChanged (PortTakes port mtu))).after }
         ensures set { self.new ≡ record self.old { ports = ports_taking port mtu (slice_get self.old.ports port) self.old.ports } }
         ensures spent { self.new.spent ≡ self.old.spent }
         ensures moment { self.new.moment ≡ self.old.moment }
@@ -91,8 +94,10 @@ impl SystemEntity {
 
     /// The route of a prefix is gone from now on. Tells whether there was one.
     pub fn remove_route(&mut self, prefix: &Prefix) -> bool
-        ensures there { (s : SystemState) → Stands self.old s → result ≡ list_any (has_prefix prefix.now) s.attached.routes }
-        ensures stands { (s : SystemState) → Stands self.old s → Stands self.new (step s (IsChanged (RouteIsGone prefix.now))).after }
+        ensures there { (s : SystemState) → Stands self.old s
+            → result ≡ list_any (has_prefix prefix.now) s.attached.routes }
+        ensures stands { (s : SystemState) → Stands self.old s
+            → Stands self.new (step s (IsChanged (RouteIsGone prefix.now))).after }
         ensures rest { self.new ≡ record self.old { routes = self.new.routes } }
         ensures spent { self.new.spent ≡ self.old.spent }
         ensures moment { self.new.moment ≡ self.old.moment }

@@ -4,7 +4,7 @@ ghost use Rattle.clnp_machine.specs.ClnpOptions.Grammar.{FitsKind};
 ghost use Rattle.clnp_machine.specs.ClnpOptions.Parameter.{parameters};
 ghost use Rattle.clnp_machine.specs.PduHeader.Grammar.{is_report};
 ghost use Rattle.clnp_machine.specs.ClnpPlan.declared.config.Role.{Role};
-ghost use Rattle.clnp_machine.specs.Local as machine;
+ghost use Rattle.clnp_machine.specs.Local as locally;
 ghost use Rattle.clnp_machine.specs.System.{SystemState, AsksForEcho, AsksToSend, IsCongested, IsRestarted};
 ghost use Rattle.system_entity.specs.Deeds.{DoesDeed};
 ghost use Rattle.system_entity.specs.Stands.{Stands};
@@ -77,7 +77,7 @@ impl SystemEntity {
     ) -> Result<(), NoMemory>
         requires { FitsKind (is_report kind) (parameters ask.now.options) }
         ensures did { OnOk result ((s : SystemState) → Stands self.old s
-            → DoesDeed s.moment (machine.make s kind from to body.now ask.now) self.new out.old.items out.new.items) }
+            → DoesDeed s.moment (locally.make s kind from to body.now ask.now) self.new out.old.items out.new.items) }
         ensures moment { self.new.moment ≡ self.old.moment }
         ensures config { self.new.local.configuration ≡ self.old.local.configuration }
         ensures spent { OnErr result (IsSpentIn self.old self.new out.old.items out.new.items) }

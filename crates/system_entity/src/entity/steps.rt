@@ -10,17 +10,17 @@ ghost use Rattle.clnp_machine.specs.Reassembly.State.{IsReady};
 ghost use Rattle.clnp_machine.specs.ClnpPlan.Configuration.{IsPort};
 ghost use Rattle.clnp_machine.specs.Content.{Content, IsCarried, Labelled, frame_of};
 ghost use Rattle.clnp_machine.specs.Given.{Appends};
-ghost use Rattle.clnp_machine.specs.Local as machine;
+ghost use Rattle.clnp_machine.specs.Local as locally;
 ghost use Rattle.clnp_machine.specs.Local.{is_own};
 ghost use Rattle.clnp_machine.specs.Step.{content_comes, effect_of, moment_comes, outputs_of, responds, unheard_note, unit_hop};
 ghost use Rattle.clnp_machine.specs.System.{SystemState, SendsEsis, next_number};
 ghost use Rattle.clnp_machine.specs.Esis.{redirect};
 ghost use Rattle.clnp_machine.specs.Nsap.declared.target.Target.TheVariants.{System};
-ghost use Rattle.clnp_machine.specs.Unit.{IsCarriable, Packet, Unit, value_of, wire};
+ghost use Rattle.clnp_machine.specs.Unit.{IsCarriable, Packet, DataUnit, value_of, wire};
 ghost use Rattle.clnp_machine.specs.ClnpViews.Extent.{part, whole};
 ghost use Rattle.clnp_machine.specs.Forwarding.Stands as routing;
 ghost use Rattle.local_entity.specs.Local.{DoAll, Does, IsWhy};
-ghost use Rattle.local_entity.specs.Sending.{hop_option, transmission};
+ghost use Rattle.local_entity.specs.Sending.{transmission};
 ghost use Rattle.clnp_machine.specs.Segmenter.Left.{IsCutOf};
 ghost use Rattle.system_entity.specs.Comes.{ComesOf, HasValue, IsAtFront, LeavesAsItWas, TellsPdu};
 ghost use Rattle.system_entity.specs.Deeds.{IsAtWork, IsFresh, LeavesParts};
@@ -28,20 +28,20 @@ ghost use Rattle.system_entity.specs.Stands.{PartsStand, PartsStandSince};
 
 use super::{Arrival, SystemEntity};
 use crate::passing::Passing;
-use crate::way::Way;
 use clnp_machine::clnp_base::NoMemory;
 use clnp_machine::clnp_options::Reason;
 use clnp_machine::clnp_plan::{Ask, Note, Output, PortConfig, Role, SendRefusal, SystemConfig};
 use clnp_machine::clnp_views::Frame;
 use clnp_machine::esis_pdus::EsisRefusal;
-use clnp_machine::esis_tables::Place;
+use clnp_machine::esis_tables::Neighbour;
 use clnp_machine::forwarding::{RouteRefusal, Routes};
 use clnp_machine::laws;
 use clnp_machine::nsap::Address;
 use clnp_machine::pdu_header::{Kind, Refusal, decode};
 use clnp_machine::segmenter::Cuts;
+use clnp_machine::way::{Hop, Way};
 use esis_entity::send_redirect;
-use local_entity::{Action, Hop, give_pieces, send_unit};
+use local_entity::{Action, give_pieces, send_unit};
 use std::alloc::Global;
 
 impl SystemEntity {
@@ -57,7 +57,7 @@ impl SystemEntity {
         requires moment { now < 2 ^ 62 }
         ensures stands { OnOk result ((s : SystemState) → PartsStand self.old s → PartsStand self.new (moment_comes s now).after) }
         ensures outputs { OnOk result ((s : SystemState) → PartsStand self.old s
-            → Appends now out.old.items out.new.items (moment_comes s now).outputs) }
+            → Appends now None out.old.items out.new.items (moment_comes s now).outputs) }
         ensures moment { OnOk result (self.new.moment ≡ now) }
         ensures ready { OnOk result (IsReady now self.new.local.table) }
         ensures none { OnErr result (out.new.items ≡ out.old.items) }
@@ -83,7 +83,7 @@ impl SystemEntity {
     pub(super) fn arrive(
         &mut self,
         alloc: Global,
-        place: Place,
+        neighbour: Neighbour,
         group: bool,
         frame: &Frame,
         out: &mut Vec<Output>,
@@ -91,7 +91,7 @@ impl SystemEntity {
         requires at_work { IsAtWork self.old }
         requires few { length frame.now ≤ 70000 }
         ensures comes { IfOk result (λ arrival. (s : SystemState) (content : Content) → PartsStand self.old s → IsCarried content
-            → frame_of content ≡ frame.now → ComesOf arrival s place group content self.new out.old.items out.new.items) }
+            → frame_of content ≡ frame.now → ComesOf arrival s neighbour group content self.new out.old.items out.new.items) }
         ensures left { IfOk result (λ arrival. LeavesAsItWas arrival self.old self.new out.old.items out.new.items) }
         ensures pdu { IfOk result (λ arrival. TellsPdu arrival frame.now) }
         ensures ready { OnOk result (IsReady self.new.moment self.new.local.table) }
@@ -104,13 +104,13 @@ impl SystemEntity {
         laws::a_frame_carries_one_packet();
         laws::no_frame_is_of_both_protocols();
         match decode(frame.bytes()) {
-            Ok(pdu) => self.pdu_comes(alloc, Passing::of(&pdu), place, group, frame, out),
+            Ok(pdu) => self.pdu_comes(alloc, Passing::of(&pdu), neighbour, group, frame, out),
             Err(Refusal::Broken(broken)) => {
                 self.drop_frame(alloc, frame, broken.reason, broken.place, out)?;
                 Ok(Arrival::Done)
             }
             Err(Refusal::NotClnp) => {
-                self.other_comes(place, frame, out)?;
+                self.other_comes(neighbour, frame, out)?;
                 Ok(Arrival::Done)
             }
         }
@@ -122,7 +122,7 @@ impl SystemEntity {
         &mut self,
         alloc: Global,
         pdu: Passing,
-        place: Place,
+        neighbour: Neighbour,
         group: bool,
         frame: &Frame,
         out: &mut Vec<Output>,
@@ -132,7 +132,7 @@ impl SystemEntity {
         requires pdu { IsAtFront pdu frame.now }
         ensures comes { IfOk result (λ arrival. (s : SystemState) (p : Packet) (following : List ℕ) → PartsStand self.old s → IsCarriable p
             → frame.now ≡ wire p ++ following → HasValue pdu (value_of p)
-            → ComesOf arrival s place group (Labelled p following) self.new out.old.items out.new.items) }
+            → ComesOf arrival s neighbour group (Labelled p following) self.new out.old.items out.new.items) }
         ensures left { IfOk result (λ arrival. LeavesAsItWas arrival self.old self.new out.old.items out.new.items) }
         ensures pdu { IfOk result (λ arrival. TellsPdu arrival frame.now) }
         ensures ready { OnOk result (IsReady self.new.moment self.new.local.table) }
@@ -150,7 +150,7 @@ impl SystemEntity {
         if !self.local.is_own(&pdu.to) {
             return Ok(Arrival::Passes(pdu));
         }
-        self.receive(alloc, place, group, frame, out)?;
+        self.receive(alloc, neighbour, group, frame, out)?;
         Ok(Arrival::Done)
     }
 
@@ -159,7 +159,7 @@ impl SystemEntity {
     fn receive(
         &mut self,
         alloc: Global,
-        place: Place,
+        neighbour: Neighbour,
         group: bool,
         frame: &Frame,
         out: &mut Vec<Output>,
@@ -169,10 +169,11 @@ impl SystemEntity {
         requires alive { (v : PduValue) × (rest : List ℕ) × BeginsWith frame.now v rest × (1 ≤ v.lifetime) }
         ensures stands { OnOk result ((s : SystemState) (p : Packet) (following : List ℕ) → PartsStand self.old s → IsCarriable p
             → frame.now ≡ wire p ++ following → (p.lifetime == 0) ≡ false → is_own s p.unit.destination ≡ true
-            → PartsStand self.new (content_comes s place group (Labelled p following)).after) }
+            → PartsStand self.new (content_comes s neighbour group (Labelled p following)).after) }
         ensures outputs { OnOk result ((s : SystemState) (p : Packet) (following : List ℕ) → PartsStand self.old s → IsCarriable p
             → frame.now ≡ wire p ++ following → (p.lifetime == 0) ≡ false → is_own s p.unit.destination ≡ true
-            → Appends s.moment out.old.items out.new.items (content_comes s place group (Labelled p following)).outputs) }
+            → Appends s.moment None out.old.items out.new.items
+            (content_comes s neighbour group (Labelled p following)).outputs) }
         ensures ready { OnOk result (IsReady self.new.moment self.new.local.table) }
         ensures none { OnErr result (out.new.items ≡ out.old.items) }
         ensures moment { self.new.moment ≡ self.old.moment }
@@ -186,21 +187,27 @@ impl SystemEntity {
         let mut actions = Vec::new(alloc);
         self.local.receive(alloc, self.moment, frame, &mut actions)?;
         self.give_out(actions, &mut outputs)?;
-        self.respond(place, group, &mut outputs)?;
+        self.respond(neighbour, group, &mut outputs)?;
         out.append(&mut outputs)?;
         Ok(())
     }
 
     /// A host that was asked for through a group tells the sender of itself (ISO 9542, section 6.6).
-    fn respond(&self, place: Place, group: bool, out: &mut Vec<Output>) -> Result<(), NoMemory>
+    fn respond(
+        &self,
+        neighbour: Neighbour,
+        group: bool,
+        out: &mut Vec<Output>,
+    ) -> Result<(), NoMemory>
         ensures { OnOk result ((s : SystemState) (p : Packet) → PartsStand self.now s → (p.lifetime == 0) ≡ false
-            → is_own s p.unit.destination ≡ true → Appends s.moment out.old.items out.new.items (responds s place group p).outputs) }
+            → is_own s p.unit.destination ≡ true
+            → Appends s.moment None out.old.items out.new.items (responds s neighbour group p).outputs) }
     {
         if !group {
             return Ok(());
         }
         match self.local.config().role() {
-            Role::Host => self.esis.tell(self.local.config(), place, out),
+            Role::Host => self.esis.tell(self.local.config(), neighbour, out),
             Role::Router => Ok(()),
         }
     }
@@ -209,17 +216,17 @@ impl SystemEntity {
     /// protocol is noted.
     fn other_comes(
         &mut self,
-        place: Place,
+        neighbour: Neighbour,
         frame: &Frame,
         out: &mut Vec<Output>,
     ) -> Result<(), NoMemory>
         requires at_work { IsAtWork self.old }
         requires other { octet frame.now 1 ≢ 0x81 }
         ensures stands { OnOk result ((s : SystemState) (group : Bool) (content : Content) → PartsStand self.old s → IsCarried content
-            → frame_of content ≡ frame.now → PartsStand self.new (content_comes s place group content).after) }
+            → frame_of content ≡ frame.now → PartsStand self.new (content_comes s neighbour group content).after) }
         ensures outputs { OnOk result ((s : SystemState) (group : Bool) (content : Content) → PartsStand self.old s → IsCarried content
             → frame_of content ≡ frame.now
-            → Appends s.moment out.old.items out.new.items (content_comes s place group content).outputs) }
+            → Appends s.moment None out.old.items out.new.items (content_comes s neighbour group content).outputs) }
         ensures ready { OnOk result (IsReady self.new.moment self.new.local.table) }
         ensures none { OnErr result (out.new.items ≡ out.old.items) }
         ensures moment { self.new.moment ≡ self.old.moment }
@@ -233,7 +240,7 @@ impl SystemEntity {
         match clnp_machine::esis_pdus::decode(frame.bytes()) {
             Ok(pdu) => {
                 let config = self.local.config();
-                self.esis.hear(config, self.moment, place, pdu, out)?;
+                self.esis.hear(config, self.moment, neighbour, pdu, out)?;
                 Ok(())
             }
             Err(refusal) => {
@@ -255,10 +262,11 @@ impl SystemEntity {
         requires at_work { IsAtWork self.old }
         requires few { length frame.now ≤ 70000 }
         ensures stands { OnOk result ((s : SystemState) (content : Content) → PartsStand self.old s → IsCarried content
-            → frame_of content ≡ frame.now → PartsStand self.new (machine.discard s content reason place).after) }
+            → frame_of content ≡ frame.now → PartsStand self.new (locally.discard s content reason place).after) }
         ensures outputs { OnOk result ((s : SystemState) (content : Content) → PartsStand self.old s → IsCarried content
             → frame_of content ≡ frame.now
-            → Appends s.moment out.old.items out.new.items (effect_of (machine.discard s content reason place)).outputs) }
+            → Appends s.moment None out.old.items out.new.items
+            (effect_of (locally.discard s content reason place)).outputs) }
         ensures ready { OnOk result (IsReady self.new.moment self.new.local.table) }
         ensures none { OnErr result (out.new.items ≡ out.old.items) }
         ensures moment { self.new.moment ≡ self.old.moment }
@@ -291,12 +299,13 @@ impl SystemEntity {
         requires at_work { IsAtWork self.old }
         requires options { FitsKind (is_report kind) (parameters ask.now.options) }
         ensures answer { (s : SystemState) → PartsStand self.old s → MatchResult result
-            (λ unit. (machine.refusal s (machine.unit_of s kind from to body.now ask.now) ≡ None) × (unit ≡ next_number s))
-            (λ e. IsWhy e (machine.refusal s (machine.unit_of s kind from to body.now ask.now))) }
+            (λ unit. (locally.refusal s (locally.unit_of s kind from to body.now ask.now) ≡ None) × (unit ≡ next_number s))
+            (λ e. IsWhy e (locally.refusal s (locally.unit_of s kind from to body.now ask.now))) }
         ensures stands { OnOk result ((s : SystemState) → PartsStand self.old s
-            → PartsStand self.new (machine.make s kind from to body.now ask.now).after) }
+            → PartsStand self.new (locally.make s kind from to body.now ask.now).after) }
         ensures outputs { OnOk result ((s : SystemState) → PartsStand self.old s
-            → Appends s.moment out.old.items out.new.items (effect_of (machine.make s kind from to body.now ask.now)).outputs) }
+            → Appends s.moment None out.old.items out.new.items
+            (effect_of (locally.make s kind from to body.now ask.now)).outputs) }
         ensures left { IfErr result (λ e. LeavesParts e self.old self.new) }
         ensures ready { OnOk result (IsReady self.new.moment self.new.local.table) }
         ensures none { OnErr result (out.new.items ≡ out.old.items) }
@@ -305,13 +314,9 @@ impl SystemEntity {
         ensures congested { self.new.congested ≡ self.old.congested }
         ensures config { self.new.local.configuration ≡ self.old.local.configuration }
     {
-        let Ok(frame) = Frame::copy(alloc, body) else {
-            return Err(SendRefusal::NoMemory);
-        };
-        let body = frame.into_view();
         laws::deeds_are_of_their_moment();
         let mut actions = Vec::new(alloc);
-        let unit = self.local.make(alloc, self.moment, kind, from, to, &body, ask, &mut actions)?;
+        let unit = self.local.make(alloc, self.moment, kind, from, to, body, ask, &mut actions)?;
         let mut outputs = Vec::new(alloc);
         let Ok(()) = self.give_out(actions, &mut outputs) else {
             return Err(SendRefusal::NoMemory);
@@ -324,10 +329,10 @@ impl SystemEntity {
 
     /// Gives out what was done at the system's addresses.
     fn give_out(&self, actions: Vec<Action>, out: &mut Vec<Output>) -> Result<(), NoMemory>
-        requires { (others : List machine.Action) × DoAll actions.items others }
-        ensures { OnOk result ((s : SystemState) (before : ℕ) (others : List machine.Action) → PartsStandSince before self.now s
+        requires { (others : List locally.Action) × DoAll actions.items others }
+        ensures { OnOk result ((s : SystemState) (before : ℕ) (others : List locally.Action) → PartsStandSince before self.now s
             → DoAll actions.items others → AllByRecursion (IsFresh s.moment) others
-            → Appends s.moment out.old.items out.new.items (flat_map (outputs_of s) others)) }
+            → Appends s.moment None out.old.items out.new.items (flat_map (outputs_of s) others)) }
     {
         for action in actions {
             self.give(action, out)?;
@@ -337,10 +342,10 @@ impl SystemEntity {
 
     /// Gives out one thing that was done.
     fn give(&self, action: Action, out: &mut Vec<Output>) -> Result<(), NoMemory>
-        requires { (other : machine.Action) × Does action other }
-        ensures { OnOk result ((s : SystemState) (before : ℕ) (other : machine.Action) → PartsStandSince before self.now s
+        requires { (other : locally.Action) × Does action other }
+        ensures { OnOk result ((s : SystemState) (before : ℕ) (other : locally.Action) → PartsStandSince before self.now s
             → Does action other → IsFresh s.moment other
-            → Appends s.moment out.old.items out.new.items (outputs_of s other)) }
+            → Appends s.moment None out.old.items out.new.items (outputs_of s other)) }
     {
         match action {
             Action::Note(note) => {
@@ -353,8 +358,9 @@ impl SystemEntity {
 
     /// Where a unit goes that the system made for an address: a router sends nothing to itself.
     fn unit_hop(&self, to: &Address) -> Option<Hop>
-        ensures { (s : SystemState) (before : ℕ) (u : Unit) → PartsStandSince before self.now s → u.destination ≡ to.now
-            → hop_option result ≡ unit_hop s u }
+        ensures { (s : SystemState) (before : ℕ) (u : DataUnit) → PartsStandSince before self.now s
+            → u.destination ≡ to.now
+            → result ≡ unit_hop s u }
     {
         match self.local.config().role() {
             Role::Host => self.next_hop(to),
@@ -413,18 +419,19 @@ pub(super) fn pass_pieces(
 /// Tells a system, at a place of one's own, of the way to an address, or gives out nothing.
 pub(super) fn tell_way(
     config: &SystemConfig,
-    place: Place,
+    neighbour: Neighbour,
     to: &Address,
     way: &Way,
     out: &mut Vec<Output>,
 ) -> Result<(), NoMemory>
     ensures given { OnOk result ((s : SystemState) (moment : ℕ) → s.configuration ≡ config.now
-        → Appends moment out.old.items out.new.items
-        (SendsEsis place.port (System place.snpa) (redirect s to.now way.now.snpa way.now.title) ∷ [])) }
+        → Appends moment None out.old.items out.new.items
+        (SendsEsis neighbour.port (System neighbour.snpa)
+        (redirect s to.now way.now.neighbour.snpa way.now.title) ∷ [])) }
     ensures none { OnErr result (out.new.items ≡ out.old.items) }
 {
     let title = way.title.as_ref();
-    send_redirect(config, place, to, &way.snpa, title, out)
+    send_redirect(config, neighbour, to, &way.neighbour.snpa, title, out)
 }
 
 /// What is noted of a frame that no protocol accepts: the rule of ES-IS PDUs that it breaks, or that it is alien.

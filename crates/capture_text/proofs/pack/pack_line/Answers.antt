@@ -1,17 +1,17 @@
-use Rattle.capture_text.proofs.Answered as facts
+use Rattle.capture_text.proofs.Answered as answered_facts
 use Rattle.capture_text.proofs.pack.pack_line.Goals as goal
 
 pub returns-clause-skipped : goal.returns-clause-skipped
-returns-clause-skipped c = facts.skipped c.pack_told.result c.args.line.now c.pack_told.ensures.told
+returns-clause-skipped c = answered_facts.skipped c.pack_told.result c.args.line.now c.pack_told.ensures.told
 
 pub returns-clause-not_packable : goal.returns-clause-not_packable
-returns-clause-not_packable c = facts.not_packable c.pack_told.result c.args.line.now c.pack_told.ensures.told
+returns-clause-not_packable c = answered_facts.not_packable c.pack_told.result c.args.line.now c.pack_told.ensures.told
 
 pub returns-clause-not_shown : goal.returns-clause-not_shown
-returns-clause-not_shown c = facts.not_shown c.pack_told.result c.args.line.now c.pack_told.ensures.told
+returns-clause-not_shown c = answered_facts.not_shown c.pack_told.result c.args.line.now c.pack_told.ensures.told
 
 pub returns-clause-count : goal.returns-clause-count
-returns-clause-count c = facts.counted c.pack_told.result c.args.line.now c.pack_told.ensures.told
+returns-clause-count c = answered_facts.counted c.pack_told.result c.args.line.now c.pack_told.ensures.told
 
 pub returns-clause-packed : goal.returns-clause-packed
-returns-clause-packed c = facts.packed c.pack_told.result c.args.line.now c.pack_told.ensures.told
+returns-clause-packed c = answered_facts.packed c.pack_told.result c.args.line.now c.pack_told.ensures.told

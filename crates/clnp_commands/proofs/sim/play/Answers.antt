@@ -1,6 +1,6 @@
 use Rattle.std.proofs.Common.{[]}
 use Rattle.std.proofs.lemmas.Result.{err_from_is_err_and}
-use Rattle.clnp_world.specs.ClnpNetwork.World.{first_world}
+use Rattle.clnp_world.specs.ClnpNetwork.LabelledNetwork.{first_world}
 use Rattle.clnp_commands.proofs.Clocks.{time_at_first}
 use Rattle.clnp_commands.proofs.Playing.{run_ended, run_stopped, set_out}
 use Rattle.clnp_commands.proofs.sim.play.Goals as goal

@@ -1,7 +1,7 @@
 use Rattle.std.proofs.Common.{ap}
 use Rattle.std.proofs.lemmas.Result.{err_from_is_err_and}
 use Rattle.std.specs.Prelude.{length}
-use Rattle.clnp_world.specs.ClnpNetwork.World.{first_world}
+use Rattle.clnp_world.specs.ClnpNetwork.LabelledNetwork.{first_world}
 use Rattle.clnp_world.specs.ClnpNetwork.Run.{moves_of_plan}
 use Rattle.clnp_world.specs.Lines.{no_lines}
 use Rattle.clnp_commands.specs.Counting.{Counted}

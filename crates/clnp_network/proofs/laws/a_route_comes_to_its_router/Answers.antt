@@ -1,5 +1,5 @@
 use Rattle.std.proofs.Common.{ap}
-use Rattle.clnp_network.specs.World.{sets_route_of}
+use Rattle.clnp_network.specs.LabelledNetwork.{sets_route_of}
 use Rattle.clnp_network.proofs.Changing.{no_route_astray, no_route_of_hosts, route_is_set}
 use Rattle.clnp_network.proofs.laws.a_route_comes_to_its_router.Goals as goal
 

@@ -1,5 +1,5 @@
 use Rattle.std.proofs.Common.{ap}
-use Rattle.clnp_network.specs.World.{removes_route_of}
+use Rattle.clnp_network.specs.LabelledNetwork.{removes_route_of}
 use Rattle.clnp_network.proofs.Changing.{no_route_goes_of_hosts, route_is_gone}
 use Rattle.clnp_network.proofs.laws.a_route_leaves_its_router.Goals as goal
 

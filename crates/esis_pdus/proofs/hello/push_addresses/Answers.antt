@@ -12,15 +12,20 @@ pub push_counted-requires : goal.push_counted-requires
 push_counted-requires c =
     let address = c.address-item.result in
     let index = c.loop-address.address-index in
-    let more = joined_more c.args.addresses.now index address c.loop-address-test.true c.address-item.is in
-    omega (
-      arith,
-      ap length c.loop-address.invariant,
-      ap length c.as_bytes.ensures.octets,
-      ap length more,
-      joined_part c.args.addresses.now (index + 1),
-      length-append c.args.plain.now (joined (take index c.args.addresses.now)),
-      length-append (joined (take index c.args.addresses.now)) (counted address),
+    let more = joined_more c.args.addresses.now index address c.loop-address-test.true c.address-item.is in (
+      omega arith,
+      (
+        omega arith,
+        omega (
+          arith,
+          ap length c.loop-address.invariant,
+          ap length c.as_bytes.ensures.octets,
+          ap length more,
+          joined_part c.args.addresses.now (index + 1),
+          length-append c.args.plain.now (joined (take index c.args.addresses.now)),
+          length-append (joined (take index c.args.addresses.now)) (counted address),
+        ),
+      ),
     )
 
 pub loop-address-preserved : goal.loop-address-preserved

@@ -3,7 +3,7 @@ use Rattle.std.proofs.Common.{◌≡◌, ◌+◌, ◌∙◌, List, ap, get_or, r
 use Rattle.clnp_machine.specs.ClnpPlan.Configuration.{SystemConfiguration}
 use Rattle.clnp_machine.specs.ClnpPlan.declared.config.Limits.{Limits}
 use Rattle.clnp_machine.specs.System.{first_state}
-use Rattle.clnp_systems.specs.Stands as systems
+use Rattle.clnp_systems.specs.Stands as clnp_systems
 use Rattle.live_node.proofs.run.open.Goals as goal
 
 pub returns-clause-stands : goal.returns-clause-stands
@@ -13,8 +13,8 @@ returns-clause-stands c = λ system ports one.
     let first : c.index-systems-0.result ≡ system =
     c.index-systems-0.is ∙ ap (λ (all : List SystemConfiguration). get_or all 0 c.index-systems-0.result) (c.systems.ensures ∙ one) in
     record {
-      system = subst (λ (limits : Limits). systems.Stands live.system (first_state 0 system limits start (start + limits.reuse))) c.limits.ensures
-          (subst (λ (s : SystemConfiguration). systems.Stands live.system (first_state 0 s c.limits.result.now start (start + c.limits.result.now.reuse)))
+      system = subst (λ (limits : Limits). clnp_systems.Stands live.system (first_state 0 system limits start (start + limits.reuse))) c.limits.ensures
+          (subst (λ (s : SystemConfiguration). clnp_systems.Stands live.system (first_state 0 s c.limits.result.now start (start + c.limits.result.now.reuse)))
           first c.in_ok-live.ensures.system);
       now = c.in_ok-live.ensures.now;
       copies = c.in_ok-live.ensures.copies;

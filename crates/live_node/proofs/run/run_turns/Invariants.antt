@@ -1,5 +1,5 @@
 use Rattle.std.proofs.Common.{◌≡◌, ◌≤◌, length}
-use Rattle.clnp_systems.specs.Stands as systems
+use Rattle.clnp_systems.specs.Stands as clnp_systems
 use Rattle.live_model.specs.Node.{Node}
 use Rattle.live_model.specs.Turn.{dues_from}
 use Rattle.live_node.specs.Agenda.{dues_of}
@@ -9,7 +9,7 @@ use Rattle.live_node.proofs.run.run_turns.Given as goal
 
 abbrev pub invariant-loop-made : goal.invariant-loop-made
 invariant-loop-made g l = record {
-  moment : (systems.entity_of l.live.system).moment ≤ g.C.Clock.last l.clock;
+  moment : (clnp_systems.entity_of l.live.system).moment ≤ g.C.Clock.last l.clock;
   room : 70000 ≤ length l.room;
   ports : length (g.B.Ports.ports l.board) ≡ length (g.B.Ports.ports l.fn.board);
   faults : g.K.Sink.faults l.fn.sink ≤ g.K.Sink.faults l.sink;

@@ -9,7 +9,7 @@ ghost use Rattle.clnp_machine.specs.Reassembly.State.{IsReady};
 ghost use Rattle.clnp_machine.specs.ClnpPlan.declared.note.Note.TheVariants.{Expired};
 ghost use Rattle.clnp_machine.specs.Unit.{Packet, wire};
 ghost use Rattle.clnp_machine.specs.System.{SystemState};
-ghost use Rattle.clnp_machine.specs.Local as machine;
+ghost use Rattle.clnp_machine.specs.Local as locally;
 ghost use Rattle.local_entity.specs.Local.{Appends, Stands};
 
 use super::super::Local;
@@ -29,9 +29,9 @@ impl Local {
     /// `NoMemory`: nothing changes then.
     pub fn tick(&mut self, alloc: Global, now: u64, out: &mut Vec<Action>) -> Result<(), NoMemory>
         requires moment { now < 2 ^ 62 }
-        ensures stands { OnOk result ((s : SystemState) → Stands self.old s → Stands self.new (machine.tick s now).after) }
+        ensures stands { OnOk result ((s : SystemState) → Stands self.old s → Stands self.new (locally.tick s now).after) }
         ensures actions { OnOk result ((s : SystemState) → Stands self.old s
-            → Appends out.old.items out.new.items (machine.tick s now).actions) }
+            → Appends out.old.items out.new.items (locally.tick s now).actions) }
         ensures same { OnErr result (self.new ≡ self.old) }
         ensures none { OnErr result (out.new.items ≡ out.old.items) }
         ensures config { self.new.configuration ≡ self.old.configuration }
@@ -53,9 +53,10 @@ impl Local {
     /// Takes out the buffer whose time ended first by a moment, and appends what is noted. Says whether there is one.
     fn give_up(&mut self, now: u64, out: &mut Vec<Action>) -> bool
         requires { vec_len out.old + 4 ≤ vec_capacity out.old }
-        ensures stands { (s : SystemState) → Stands self.old s → s.moment ≡ now → Stands self.new (machine.expire 1 s).after }
+        ensures stands { (s : SystemState) → Stands self.old s → s.moment ≡ now
+            → Stands self.new (locally.expire 1 s).after }
         ensures actions { (s : SystemState) → Stands self.old s → s.moment ≡ now
-            → Appends out.old.items out.new.items (machine.expire 1 s).actions }
+            → Appends out.old.items out.new.items (locally.expire 1 s).actions }
         ensures given { (buffers : List (Buffer Extent)) → table.Stands self.old.table buffers
             → (result ≡ is_some (buffer.due now buffers))
             × table.Stands self.new.table (buffer.without_due (buffer.due now buffers) buffers) }
@@ -75,10 +76,10 @@ impl Local {
     fn end(&mut self, id: u16, first: Option<View>, out: &mut Vec<Action>)
         requires { vec_len out.old + 4 ≤ vec_capacity out.old }
         ensures stands { (s : SystemState) (other : Option Packet) → Stands self.old s
-            → option_map seen first ≡ option_map wire other → Stands self.new (machine.discard_first s other).after }
+            → option_map seen first ≡ option_map wire other → Stands self.new (locally.discard_first s other).after }
         ensures actions { (s : SystemState) (other : Option Packet) → Stands self.old s
             → option_map seen first ≡ option_map wire other → Appends out.old.items out.new.items
-            (machine.Tells (Expired id (buffer.held s.buffers)) ∷ (machine.discard_first s other).actions) }
+            (locally.Tells (Expired id (buffer.held s.buffers)) ∷ (locally.discard_first s other).actions) }
         ensures config { self.new.configuration ≡ self.old.configuration }
         ensures table { self.new.table ≡ self.old.table }
         ensures len { vec_len out.new ≤ vec_len out.old + 4 }

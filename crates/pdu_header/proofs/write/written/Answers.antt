@@ -15,7 +15,7 @@ push-requires c =
           refl (options_spelled _ _ c.as_bytes-3.ensures.value c.as_bytes-3.ensures.well_formed)
           c.new-cells.ensures c.push_fixed.ensures.octets
           (c.push_counted.ensures ∙ ap (λ x. c.push_fixed.new.cells ++ counted x) c.as_bytes.ensures.octets)
-          (c.push_counted-2.ensures ∙ ap (λ x. c.push_counted.new.cells ++ counted x) c.as_bytes-2.ensures.octets)
+          (c.push_counted-2.ensures ∙ ap (λ x. c.push_counted.new.self ++ counted x) c.as_bytes-2.ensures.octets)
           c.push_segmentation.ensures.octets,
     )
 
@@ -26,7 +26,7 @@ returns-then-parts-clause-value c body e =
     c.requires.len (sym e) c.flags.ensures (options_spelled _ _ c.as_bytes-3.ensures.value c.as_bytes-3.ensures.well_formed)
     c.new-cells.ensures c.push_fixed.ensures.octets
     (c.push_counted.ensures ∙ ap (λ x. c.push_fixed.new.cells ++ counted x) c.as_bytes.ensures.octets)
-    (c.push_counted-2.ensures ∙ ap (λ x. c.push_counted.new.cells ++ counted x) c.as_bytes-2.ensures.octets)
+    (c.push_counted-2.ensures ∙ ap (λ x. c.push_counted.new.self ++ counted x) c.as_bytes-2.ensures.octets)
     c.push_segmentation.ensures.octets c.push.ensures)
     ∙ sym (header_if_sealed (parts_value c.args.parts.now body) c.if-parts.true)
 
@@ -36,7 +36,7 @@ returns-else-parts-clause-value c body e =
     c.requires.len (sym e) c.flags.ensures (options_spelled _ _ c.as_bytes-3.ensures.value c.as_bytes-3.ensures.well_formed)
     c.new-cells.ensures c.push_fixed.ensures.octets
     (c.push_counted.ensures ∙ ap (λ x. c.push_fixed.new.cells ++ counted x) c.as_bytes.ensures.octets)
-    (c.push_counted-2.ensures ∙ ap (λ x. c.push_counted.new.cells ++ counted x) c.as_bytes-2.ensures.octets)
+    (c.push_counted-2.ensures ∙ ap (λ x. c.push_counted.new.self ++ counted x) c.as_bytes-2.ensures.octets)
     c.push_segmentation.ensures.octets c.push.ensures
     ∙ sym (header_if_unsealed (parts_value c.args.parts.now body) c.if-parts.false)
 

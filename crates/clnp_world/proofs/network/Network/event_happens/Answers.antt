@@ -4,7 +4,7 @@ use Rattle.std.proofs.lemmas.Result.{on_ok_weaker}
 use Rattle.clnp_network.specs.Scenario.Scenario.{octets_of}
 use Rattle.clnp_network.specs.Scenario.declared.event.Event.{Event}
 use Rattle.clnp_machine.specs.System.{AsksToSend}
-use Rattle.clnp_network.specs.World as network
+use Rattle.clnp_network.specs.LabelledNetwork as network
 use Rattle.clnp_world.specs.Parts.{Follows}
 use Rattle.clnp_world.proofs.network.Network.event_happens.Goals as goal
 

@@ -3,7 +3,7 @@ use Rattle.std.proofs.Common.{◌∙◌, ℕ, Bool, [], ◌∷◌, Option, sym, 
 use Rattle.std.proofs.lemmas.Result.{on_ok_weaker}
 use Rattle.clnp_machine.specs.Step.{step}
 use Rattle.clnp_machine.specs.System.{FrameComes, Input, SystemState}
-use Rattle.clnp_network.specs.World as network
+use Rattle.clnp_network.specs.LabelledNetwork as network
 use Rattle.clnp_machine.specs.ClnpPlan.Journal.{Received}
 use Rattle.clnp_world.specs.Lines.{Gains}
 use Rattle.clnp_world.specs.Parts.{Follows}

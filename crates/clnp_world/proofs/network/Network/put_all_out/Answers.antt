@@ -1,8 +1,8 @@
 -- One output after another.
-use Rattle.std.proofs.Common.{◌≡◌, ◌∙◌, List, sym, refl, arith, subst, take}
+use Rattle.std.proofs.Common.{◌≡◌, ◌∙◌, List, sym, refl, arith, subst, take, Some}
 use Rattle.std.proofs.lemmas.List.{take_all}
 use Rattle.clnp_machine.specs.ClnpPlan.declared.output.Output.{Output}
-use Rattle.clnp_machine.specs.Given.{GiveAllFor}
+use Rattle.clnp_machine.specs.Given.{GiveAll}
 use Rattle.clnp_machine.proofs.ClnpBase.ListSteps.{take_push}
 use Rattle.clnp_world.proofs.PutSteps.{PutsOut, puts_none, puts_more}
 use Rattle.clnp_world.proofs.network.Network.put_all_out.Goals as goal
@@ -36,4 +36,4 @@ returns-clause-puts c = λ model system content others h there born own gives.
     let outputs = c.deref-output-items.result.now in
     let all : take c.loop-output.output-index outputs ≡ outputs = take_all c.loop-output.output-index outputs c.loop-output-test.false in
     c.loop-output.invariant.puts model system content others h there born own
-    (subst (λ (given : List Output). GiveAllFor system.moment content given others) (sym (all ∙ c.deref-output-items.ensures.value)) gives)
+    (subst (λ (given : List Output). GiveAll system.moment (Some content) given others) (sym (all ∙ c.deref-output-items.ensures.value)) gives)

@@ -1,5 +1,5 @@
 use Rattle.std.proofs.Common.{◌∙◌, ap, sym, subst, []}
-use Rattle.clnp_machine.specs.EsisTables.Stands as heard
+use Rattle.clnp_machine.specs.EsisTables.Stands as esis_tables
 use Rattle.clnp_machine.specs.EsisTables.Stands.{limits_of}
 use Rattle.esis_entity.specs.State.{EsisState}
 use Rattle.esis_entity.proofs.Ticking.{does_tick, on_ok}
@@ -10,7 +10,7 @@ returns-clause-stands c =
     let later : EsisState = record { tables = c.forget.new.tables; period = c.self.inside.period; next_hello = c.self.inside.next_hello } in
     on_ok c.say_hello.result
     (λ says s before h same number at passed.
-    let there = subst (λ (entity : EsisState). heard.Stands entity.tables s.facts before []) (sym c.self.view_is) h.tables in
+    let there = subst (λ (entity : EsisState). esis_tables.Stands entity.tables s.facts before []) (sym c.self.view_is) h.tables in
     (does_tick c.args.now before c.args.self.now later c.say_hello.new.self c.args.out.now.items c.forget.new.out.items c.say_hello.new.out.items s h at
     (record {
       limits = c.in_ok-forget.ensures.limits ∙ ap (λ (entity : EsisState). limits_of entity.tables) c.self.view_is;
@@ -27,7 +27,7 @@ returns-clause-outputs c =
     let later : EsisState = record { tables = c.forget.new.tables; period = c.self.inside.period; next_hello = c.self.inside.next_hello } in
     on_ok c.say_hello.result
     (λ says s before h same number at passed.
-    let there = subst (λ (entity : EsisState). heard.Stands entity.tables s.facts before []) (sym c.self.view_is) h.tables in
+    let there = subst (λ (entity : EsisState). esis_tables.Stands entity.tables s.facts before []) (sym c.self.view_is) h.tables in
     (does_tick c.args.now before c.args.self.now later c.say_hello.new.self c.args.out.now.items c.forget.new.out.items c.say_hello.new.out.items s h at
     (record {
       limits = c.in_ok-forget.ensures.limits ∙ ap (λ (entity : EsisState). limits_of entity.tables) c.self.view_is;

@@ -9,6 +9,6 @@ use Rattle.esis_entity.proofs.entity.EsisEntity.hear_each.Given as goal
 abbrev pub invariant-loop-address : goal.invariant-loop-address
 invariant-loop-address l = record {
   heard : (s : SystemState) → Stands l.initial.self s → s.moment ≡ l.now
-      → HeardSoFar l.now l.self l.initial.out.items l.out.items l.new l.place l.hold l.address-iterator (hears_each s l.initial.address-iterator l.place l.hold);
+      → HeardSoFar l.now l.self l.initial.out.items l.out.items l.new l.neighbour l.hold l.address-iterator (hears_each s l.initial.address-iterator l.neighbour l.hold);
   front : StaysInFront l.initial.out.items l.out.items;
 }

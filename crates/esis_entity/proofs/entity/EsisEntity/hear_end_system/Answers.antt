@@ -10,8 +10,8 @@ pub returns-clause-done : goal.returns-clause-done
 returns-clause-done c =
     on_ok c.answer.result
     (λ told s h same at.
-    let heard : Effect = hears_each s c.args.addresses c.args.place.now c.args.hold in
+    let heard : Effect = hears_each s c.args.addresses c.args.neighbour.now c.args.hold in
     let does = c.in_ok-new.ensures.heard s h at in
-    does_answer c.args.now c.hear_each.new.self c.args.out.now.items c.hear_each.new.out.items c.answer.new.out.items c.in_ok-new.new heard c.args.place.now does
-    (told heard.after c.args.now does.does.stands (hears_alike s c.args.addresses c.args.place.now c.args.hold ∙ same)))
+    does_answer c.args.now c.hear_each.new.self c.args.out.now.items c.hear_each.new.out.items c.answer.new.out.items c.in_ok-new.new heard c.args.neighbour.now does
+    (told heard.after c.args.now does.does.stands (hears_alike s c.args.addresses c.args.neighbour.now c.args.hold ∙ same)))
     c.answer.ensures.told

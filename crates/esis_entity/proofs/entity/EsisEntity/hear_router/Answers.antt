@@ -9,8 +9,8 @@ pub returns-clause-outputs : goal.returns-clause-outputs
 returns-clause-outputs c =
     on_ok c.answer.result
     (λ told s h same at.
-    let heard : Effect = hears s Is c.args.title c.args.place.now c.args.hold in
+    let heard : Effect = hears s Is c.args.title c.args.neighbour.now c.args.hold in
     let does = c.in_ok-new.ensures.heard s h at in
-    (does_answer c.args.now c.hear_key.new.self c.args.out.now.items c.hear_key.new.out.items c.answer.new.out.items c.in_ok-new.new heard c.args.place.now does
+    (does_answer c.args.now c.hear_key.new.self c.args.out.now.items c.hear_key.new.out.items c.answer.new.out.items c.in_ok-new.new heard c.args.neighbour.now does
     (told heard.after c.args.now does.does.stands same)).appends)
     c.answer.ensures.told

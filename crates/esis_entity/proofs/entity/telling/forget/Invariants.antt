@@ -1,6 +1,6 @@
 use Rattle.std.proofs.Common.{◌≡◌, ◌≤◌, ◌^◌, ◌-◌, ℕ, List, [], length}
 use Rattle.clnp_machine.specs.EsisTables.Fact.{Fact}
-use Rattle.clnp_machine.specs.EsisTables.Stands as heard
+use Rattle.clnp_machine.specs.EsisTables.Stands as esis_tables
 use Rattle.clnp_machine.specs.EsisTables.Gone.{gone}
 use Rattle.clnp_machine.specs.EsisTables.Stands.{limits_of}
 use Rattle.esis_entity.specs.Does.{StaysInFront}
@@ -10,7 +10,7 @@ use Rattle.esis_entity.proofs.entity.telling.forget.Given as goal
 abbrev pub invariant-loop-ended : goal.invariant-loop-ended
 invariant-loop-ended l = record {
   limits : limits_of l.tables ≡ limits_of l.initial.tables;
-  forgot : (facts : List Fact) (before moment : ℕ) → heard.Stands l.initial.tables facts before [] → before ≤ l.now
+  forgot : (facts : List Fact) (before moment : ℕ) → esis_tables.Stands l.initial.tables facts before [] → before ≤ l.now
       → ForgotSoFar moment l.now l.tables l.initial.out.items l.out.items facts (gone before l.now facts);
   front : StaysInFront l.initial.out.items l.out.items;
 }

@@ -4,7 +4,7 @@ use Rattle.std.proofs.lemmas.Result.{on_err_weaker, on_ok_weaker}
 use Rattle.clnp_machine.specs.ClnpPlan.Configuration.{SystemConfiguration}
 use Rattle.clnp_machine.specs.Content.{Unlabelled}
 use Rattle.clnp_machine.specs.System.{Input, MomentComes}
-use Rattle.clnp_systems.specs.Stands as systems
+use Rattle.clnp_systems.specs.Stands as clnp_systems
 use Rattle.live_model.specs.Node.{Node, Outcome, come_all, comes}
 use Rattle.live_node.specs.Agenda.{asks_by, dues_of}
 use Rattle.live_node.specs.Plays.{Breaks, Plays}
@@ -17,7 +17,7 @@ returns-clause-plays g c =
     let asks : SystemConfiguration → List Input = λ config. asks_by c.args.now config.role (dues_of c.args.agenda.now c.args.scenario.now.events) in
     on_ok_weaker c.do_due.result (λ k node h.
     plays_then (comes node (MomentComes c.args.now))
-    (λ (other : Node) (outcomes : List Outcome). come_all other (asks (systems.configuration_of c.args.self.now.system)) outcomes)
+    (λ (other : Node) (outcomes : List Outcome). come_all other (asks (clnp_systems.configuration_of c.args.self.now.system)) outcomes)
     node _ _ _ _ _ _ _ _ (c.in_ok-comes.ensures.plays node (Unlabelled []) h tt)
     (λ other m. subst (λ (config : SystemConfiguration). Plays (come_all other (asks config)) other c.do_due.new.self (g.B.Ports.ports c.comes.new.board) (g.B.Ports.ports c.do_due.new.board)
     (g.K.Sink.written c.comes.new.sink) (g.K.Sink.written c.do_due.new.sink)) (c.in_ok-comes.ensures.config (Unlabelled []) tt) (k other m)))
@@ -28,7 +28,7 @@ returns-clause-breaks g c =
     let asks : SystemConfiguration → List Input = λ config. asks_by c.args.now config.role (dues_of c.args.agenda.now c.args.scenario.now.events) in
     on_err_weaker c.do_due.result (λ k node h.
     breaks_then (comes node (MomentComes c.args.now))
-    (λ (other : Node) (outcomes : List Outcome). come_all other (asks (systems.configuration_of c.args.self.now.system)) outcomes)
+    (λ (other : Node) (outcomes : List Outcome). come_all other (asks (clnp_systems.configuration_of c.args.self.now.system)) outcomes)
     node _ _ _ _ _ _ _ (c.in_ok-comes.ensures.plays node (Unlabelled []) h tt)
     (λ other m. subst (λ (config : SystemConfiguration). Breaks (come_all other (asks config)) other (g.B.Ports.ports c.comes.new.board) (g.B.Ports.ports c.do_due.new.board)
     (g.K.Sink.written c.comes.new.sink) (g.K.Sink.written c.do_due.new.sink)) (c.in_ok-comes.ensures.config (Unlabelled []) tt) (k other m)))
@@ -37,7 +37,7 @@ returns-clause-breaks g c =
 pub returns-in_err-comes-clause-breaks : goal.returns-in_err-comes-clause-breaks
 returns-in_err-comes-clause-breaks g c =
     on_err c.from_residual.result (λ node h.
-    let asks = asks_by c.args.now (systems.configuration_of c.args.self.now.system).role (dues_of c.args.agenda.now c.args.scenario.now.events) in
+    let asks = asks_by c.args.now (clnp_systems.configuration_of c.args.self.now.system).role (dues_of c.args.agenda.now c.args.scenario.now.events) in
     breaks_first (comes node (MomentComes c.args.now)) (λ (other : Node) (outcomes : List Outcome). come_all other asks outcomes)
     node _ _ _ _ (idle_come_all asks) (c.in_err-comes.ensures.breaks node (Unlabelled []) h tt))
 

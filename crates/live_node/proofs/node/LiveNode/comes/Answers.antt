@@ -4,7 +4,7 @@ use Rattle.std.proofs.lemmas.Result.{on_err_weaker, on_ok_weaker}
 use Rattle.clnp_machine.specs.ClnpPlan.declared.output.Output.{Output}
 use Rattle.clnp_machine.specs.Content.{Content}
 use Rattle.clnp_machine.specs.Step.{step}
-use Rattle.clnp_systems.specs.Stands as systems
+use Rattle.clnp_systems.specs.Stands as clnp_systems
 use Rattle.clnp_systems.specs.SystemEntity.Steps.{Carries, TakesStep, input_with}
 use Rattle.clnp_systems.specs.declared.system.System.{System}
 use Rattle.live_model.specs.Node.{Node, comes, puts_all_out}
@@ -23,16 +23,16 @@ pub returns-clause-plays : goal.returns-clause-plays
 returns-clause-plays g c =
     on_ok_weaker c.put_all_out.result (λ plays node content h carries.
     let took : (content : Content) → Carries c.args.input.now content
-    → TakesStep (systems.role_of c.args.self.now.system) (input_with content c.args.input.now) (systems.entity_of c.args.self.now.system) (systems.entity_of c.step.new.self)
+    → TakesStep (clnp_systems.role_of c.args.self.now.system) (input_with content c.args.input.now) (clnp_systems.entity_of c.args.self.now.system) (clnp_systems.entity_of c.step.new.self)
     c.new-outputs.result.items c.step.new.out.items
     = on_ok_there c.step.result (sym c.is_err.ensures.value ∙ c.if-is_err.false) c.step.ensures.step in
     let board = g.B.Ports.ports c.args.board.now in
     let input = input_with content c.args.input.now in
     let effect = step node.system input in
     let next : Node = record node { system = effect.after } in
-    let stands = step_stands c.args.self.now c.step.new.self c.moment_behind-self.result board node (systems.role_of c.args.self.now.system) input
+    let stands = step_stands c.args.self.now c.step.new.self c.moment_behind-self.result board node (clnp_systems.role_of c.args.self.now.system) input
     c.new-outputs.result.items c.step.new.out.items h (took content carries) (c.moment_behind-self.ensures content) in
-    let gave = step_gave c.args.self.now c.step.new.self node (systems.role_of c.args.self.now.system) content c.args.input.now
+    let gave = step_gave c.args.self.now c.step.new.self node (clnp_systems.role_of c.args.self.now.system) content c.args.input.now
     c.new-outputs.result.items c.step.new.out.items h.system c.new-outputs.ensures.items (took content carries) in
     plays_as (puts_all_out next effect.outputs) (comes node input) next node c.put_all_out.new.self board (g.B.Ports.ports c.put_all_out.new.board)
     (g.K.Sink.written c.args.sink.now) (g.K.Sink.written c.put_all_out.new.sink) (λ outcomes. refl) refl
@@ -43,16 +43,16 @@ pub returns-clause-breaks : goal.returns-clause-breaks
 returns-clause-breaks g c =
     on_err_weaker c.put_all_out.result (λ breaks node content h carries.
     let took : (content : Content) → Carries c.args.input.now content
-    → TakesStep (systems.role_of c.args.self.now.system) (input_with content c.args.input.now) (systems.entity_of c.args.self.now.system) (systems.entity_of c.step.new.self)
+    → TakesStep (clnp_systems.role_of c.args.self.now.system) (input_with content c.args.input.now) (clnp_systems.entity_of c.args.self.now.system) (clnp_systems.entity_of c.step.new.self)
     c.new-outputs.result.items c.step.new.out.items
     = on_ok_there c.step.result (sym c.is_err.ensures.value ∙ c.if-is_err.false) c.step.ensures.step in
     let board = g.B.Ports.ports c.args.board.now in
     let input = input_with content c.args.input.now in
     let effect = step node.system input in
     let next : Node = record node { system = effect.after } in
-    let stands = step_stands c.args.self.now c.step.new.self c.moment_behind-self.result board node (systems.role_of c.args.self.now.system) input
+    let stands = step_stands c.args.self.now c.step.new.self c.moment_behind-self.result board node (clnp_systems.role_of c.args.self.now.system) input
     c.new-outputs.result.items c.step.new.out.items h (took content carries) (c.moment_behind-self.ensures content) in
-    let gave = step_gave c.args.self.now c.step.new.self node (systems.role_of c.args.self.now.system) content c.args.input.now
+    let gave = step_gave c.args.self.now c.step.new.self node (clnp_systems.role_of c.args.self.now.system) content c.args.input.now
     c.new-outputs.result.items c.step.new.out.items h.system c.new-outputs.ensures.items (took content carries) in
     breaks_as (puts_all_out next effect.outputs) (comes node input) next node board (g.B.Ports.ports c.put_all_out.new.board)
     (g.K.Sink.written c.args.sink.now) (g.K.Sink.written c.put_all_out.new.sink) (λ outcomes. refl) refl
@@ -63,16 +63,16 @@ pub returns-clause-moment : goal.returns-clause-moment
 returns-clause-moment g c =
     on_ok_weaker c.put_all_out.result (λ plays content carries.
     let took : (content : Content) → Carries c.args.input.now content
-    → TakesStep (systems.role_of c.args.self.now.system) (input_with content c.args.input.now) (systems.entity_of c.args.self.now.system) (systems.entity_of c.step.new.self)
+    → TakesStep (clnp_systems.role_of c.args.self.now.system) (input_with content c.args.input.now) (clnp_systems.entity_of c.args.self.now.system) (clnp_systems.entity_of c.step.new.self)
     c.new-outputs.result.items c.step.new.out.items
     = on_ok_there c.step.result (sym c.is_err.ensures.value ∙ c.if-is_err.false) c.step.ensures.step in
-    ap (λ (s : System). (systems.entity_of s).moment) c.put_all_out.ensures.system ∙ (took content carries).moment)
+    ap (λ (s : System). (clnp_systems.entity_of s).moment) c.put_all_out.ensures.system ∙ (took content carries).moment)
     c.put_all_out.ensures.plays
 
 pub returns-clause-config : goal.returns-clause-config
 returns-clause-config g c = λ content carries.
     let took : (content : Content) → Carries c.args.input.now content
-    → TakesStep (systems.role_of c.args.self.now.system) (input_with content c.args.input.now) (systems.entity_of c.args.self.now.system) (systems.entity_of c.step.new.self)
+    → TakesStep (clnp_systems.role_of c.args.self.now.system) (input_with content c.args.input.now) (clnp_systems.entity_of c.args.self.now.system) (clnp_systems.entity_of c.step.new.self)
     c.new-outputs.result.items c.step.new.out.items
     = on_ok_there c.step.result (sym c.is_err.ensures.value ∙ c.if-is_err.false) c.step.ensures.step in
-    ap (λ (s : System). systems.configuration_of s) c.put_all_out.ensures.system ∙ (took content carries).config
+    ap (λ (s : System). clnp_systems.configuration_of s) c.put_all_out.ensures.system ∙ (took content carries).config

@@ -3,7 +3,7 @@ use Rattle.std.proofs.Common.{◌≡◌, ◌≤◌, ◌<◌, ◌+◌, ◌∙◌,
 use Rattle.clnp_machine.specs.ClnpPlan.Configuration.{SystemConfiguration}
 use Rattle.clnp_machine.specs.ClnpPlan.declared.config.Role.{Role}
 use Rattle.clnp_machine.specs.System.{Input}
-use Rattle.clnp_systems.specs.Stands as systems
+use Rattle.clnp_systems.specs.Stands as clnp_systems
 use Rattle.scenario.specs.Scenario.{ticks_of}
 use Rattle.scenario.specs.declared.event.Event.{Event}
 use Rattle.live_model.specs.Node.{Node, Outcome, and_then, come_all}
@@ -19,7 +19,7 @@ use Rattle.live_node.proofs.node.LiveNode.do_due.Goals as goal
 
 pub loop-place-init : goal.loop-place-init
 loop-place-init g c =
-    let role = (systems.configuration_of c.args.self.now.system).role in
+    let role = (clnp_systems.configuration_of c.args.self.now.system).role in
     let dues = dues_of c.args.agenda.now c.args.scenario.now.events in
     record {
       next = refl;
@@ -38,8 +38,8 @@ loop-place-preserved g c =
     let i = c.loop-place.invariant in
     let events : List Event = c.args.scenario.now.events in
     let now = c.args.now in
-    let role = (systems.configuration_of c.args.self.now.system).role in
-    let asked = (systems.configuration_of c.loop-place.self.system).role in
+    let role = (clnp_systems.configuration_of c.args.self.now.system).role in
+    let asked = (clnp_systems.configuration_of c.loop-place.self.system).role in
     let agenda : Agenda = c.loop-place.agenda in
     let next : Agenda = c.behind.result in
     let event : Event = c.index-events-place.result in
@@ -69,7 +69,7 @@ pub returns-clause-plays : goal.returns-clause-plays
 returns-clause-plays g c = λ node h.
     let i = c.loop-place.invariant in
     let events : List Event = c.args.scenario.now.events in
-    let role = (systems.configuration_of c.args.self.now.system).role in
+    let role = (clnp_systems.configuration_of c.args.self.now.system).role in
     plays_to_end _ _ node _ _ _ _ _
     (λ (other : Node) (outcomes : List Outcome). ap (λ (dues : List Due). come_all other (asks_by c.args.now role dues) outcomes)
     (no_dues c.loop-place.agenda events (omega (arith, i.next, c.loop-place-test.false, ap (λ (es : List Event). length es) c.events-events.ensures))))
@@ -78,7 +78,7 @@ returns-clause-plays g c = λ node h.
 pub returns-then-now-agenda-clause-plays : goal.returns-then-now-agenda-clause-plays
 returns-then-now-agenda-clause-plays g c = λ node h.
     let events : List Event = c.args.scenario.now.events in
-    let role = (systems.configuration_of c.args.self.now.system).role in
+    let role = (clnp_systems.configuration_of c.args.self.now.system).role in
     plays_to_end _ _ node _ _ _ _ _
     (λ (other : Node) (outcomes : List Outcome). ap (λ (inputs : List Input). come_all other inputs outcomes)
     (asks_none c.args.now c.loop-place.agenda.moment role (drop c.loop-place.agenda.next events) (omega (arith, c.if-now-agenda.true))))
@@ -95,8 +95,8 @@ returns-in_err-do_event-clause-breaks g c =
     let i = c.loop-place.invariant in
     let events : List Event = c.args.scenario.now.events in
     let now = c.args.now in
-    let role = (systems.configuration_of c.args.self.now.system).role in
-    let asked = (systems.configuration_of c.loop-place.self.system).role in
+    let role = (clnp_systems.configuration_of c.args.self.now.system).role in
+    let asked = (clnp_systems.configuration_of c.loop-place.self.system).role in
     let agenda : Agenda = c.loop-place.agenda in
     let event : Event = c.index-events-place.result in
     let next : Agenda = record { next = agenda.next + 1; moment = agenda.moment + ticks_of event } in

@@ -1,7 +1,7 @@
 -- The system is quiet until identifiers have rested.
 use Rattle.std.proofs.Common.{◌+◌, ℕ, arith, subst}
 use Rattle.clnp_machine.specs.System.{first_state}
-use Rattle.clnp_systems.specs.Stands as systems
+use Rattle.clnp_systems.specs.Stands as clnp_systems
 use Rattle.live_node.proofs.node.LiveNode.new.Goals as goal
 
 pub new-requires-clause-quiet : goal.new-requires-clause-quiet
@@ -9,5 +9,5 @@ new-requires-clause-quiet c = omega (arith, c.from.ensures, c.requires.reuse, c.
 
 pub returns-clause-system : goal.returns-clause-system
 returns-clause-system c =
-    subst (λ (rest : ℕ). systems.Stands c.in_ok-system.system (first_state 0 c.args.config.now c.args.limits.now c.args.start (c.args.start + rest)))
+    subst (λ (rest : ℕ). clnp_systems.Stands c.in_ok-system.system (first_state 0 c.args.config.now c.args.limits.now c.args.start (c.args.start + rest)))
     c.from.ensures (c.in_ok-system.ensures.stands 0)

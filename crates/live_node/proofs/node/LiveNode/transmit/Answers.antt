@@ -4,7 +4,7 @@ use Rattle.std.proofs.lemmas.Result.{on_err_weaker, on_ok_weaker}
 use Rattle.std.specs.Io.KnownBytes.{Appends}
 use Rattle.clnp_machine.specs.ClnpPlan.Configuration.{SystemConfiguration}
 use Rattle.clnp_machine.specs.ClnpPlan.Journal.{Transmitted}
-use Rattle.clnp_systems.specs.Stands as systems
+use Rattle.clnp_systems.specs.Stands as clnp_systems
 use Rattle.link_board.specs.ClnpBase.Streams.{AppendsFront}
 use Rattle.link_board.specs.Ports.{ChangesPort, Detaches, PortState, SendsOn, is_attached_at}
 use Rattle.live_model.specs.Lines.{Says, node_line_text}
@@ -28,7 +28,7 @@ returns-in_err-write_transmission-clause-breaks g c =
     let new = g.K.Sink.written c.write_transmission.new.sink in
     let sent = sending_of c.args.sending.now in
     let name = c.name-name.result.now in
-    let named : name ≡ (systems.configuration_of live.system).name = c.name-name.ensures ∙ ap (λ (s : SystemConfiguration). s.name) c.config.ensures in
+    let named : name ≡ (clnp_systems.configuration_of live.system).name = c.name-name.ensures ∙ ap (λ (s : SystemConfiguration). s.name) c.config.ensures in
     transmits_cut live board board node h sent name name c.saturating_add-self.result named named c.saturating_add-self.ensures old old new
     (subst (λ (octets : List ℕ). AppendsFront old new (node_line_text (Says (Transmitted live.now name c.saturating_add-self.result c.args.sending.now.port c.args.sending.now.to octets))))
     c.in-Ok.ensures c.in_err-write_transmission.ensures.front))
@@ -41,7 +41,7 @@ returns-then-port-count-clause-plays g c = λ node h.
     let new = g.K.Sink.written c.write_transmission.new.sink in
     let sent = sending_of c.args.sending.now in
     let name = c.name-name.result.now in
-    let named : name ≡ (systems.configuration_of live.system).name = c.name-name.ensures ∙ ap (λ (s : SystemConfiguration). s.name) c.config.ensures in
+    let named : name ≡ (clnp_systems.configuration_of live.system).name = c.name-name.ensures ∙ ap (λ (s : SystemConfiguration). s.name) c.config.ensures in
     let off : is_attached_at c.args.sending.now.port board ≡ false =
     elim c.then-port-count.branch [
       | then-port-count-via-then-port-count w ↦ past_end board c.args.sending.now.port (omega (arith, c.count.ensures, c.from-port.ensures, w.if-port-count.true))
@@ -61,7 +61,7 @@ returns-in-Done-clause-plays g c = λ node h.
     let new = g.K.Sink.written c.write_transmission.new.sink in
     let sent = sending_of c.args.sending.now in
     let name = c.name-name.result.now in
-    let named : name ≡ (systems.configuration_of live.system).name = c.name-name.ensures ∙ ap (λ (s : SystemConfiguration). s.name) c.config.ensures in
+    let named : name ≡ (clnp_systems.configuration_of live.system).name = c.name-name.ensures ∙ ap (λ (s : SystemConfiguration). s.name) c.config.ensures in
     let on : is_attached_at c.args.sending.now.port board ≡ true =
     subst (λ (p : ℕ). is_attached_at p board ≡ true) c.from-port.ensures (sym c.is_attached.ensures ∙ c.if-not-is_attached.false) in
     let change : ChangesPort c.args.sending.now.port board after (λ (a b : PortState). SendsOn a b sent.frame) =
@@ -82,8 +82,8 @@ returns-clause-plays g c =
     let mid = g.K.Sink.written c.write_transmission.new.sink in
     let sent = sending_of c.args.sending.now in
     let name = c.name-name.result.now in
-    let named : name ≡ (systems.configuration_of live.system).name = c.name-name.ensures ∙ ap (λ (s : SystemConfiguration). s.name) c.config.ensures in
-    let owned : c.name.result.now ≡ (systems.configuration_of live.system).name = c.name.ensures ∙ ap (λ (s : SystemConfiguration). s.name) c.config-in-Detached.ensures in
+    let named : name ≡ (clnp_systems.configuration_of live.system).name = c.name-name.ensures ∙ ap (λ (s : SystemConfiguration). s.name) c.config.ensures in
+    let owned : c.name.result.now ≡ (clnp_systems.configuration_of live.system).name = c.name.ensures ∙ ap (λ (s : SystemConfiguration). s.name) c.config-in-Detached.ensures in
     let on : is_attached_at c.args.sending.now.port board ≡ true =
     subst (λ (p : ℕ). is_attached_at p board ≡ true) c.from-port.ensures (sym c.is_attached.ensures ∙ c.if-not-is_attached.false) in
     transmits_broken live board after node h sent name c.name.result.now c.saturating_add-self.result named owned c.saturating_add-self.ensures
@@ -103,8 +103,8 @@ returns-clause-breaks g c =
     let mid = g.K.Sink.written c.write_transmission.new.sink in
     let sent = sending_of c.args.sending.now in
     let name = c.name-name.result.now in
-    let named : name ≡ (systems.configuration_of live.system).name = c.name-name.ensures ∙ ap (λ (s : SystemConfiguration). s.name) c.config.ensures in
-    let owned : c.name.result.now ≡ (systems.configuration_of live.system).name = c.name.ensures ∙ ap (λ (s : SystemConfiguration). s.name) c.config-in-Detached.ensures in
+    let named : name ≡ (clnp_systems.configuration_of live.system).name = c.name-name.ensures ∙ ap (λ (s : SystemConfiguration). s.name) c.config.ensures in
+    let owned : c.name.result.now ≡ (clnp_systems.configuration_of live.system).name = c.name.ensures ∙ ap (λ (s : SystemConfiguration). s.name) c.config-in-Detached.ensures in
     let on : is_attached_at c.args.sending.now.port board ≡ true =
     subst (λ (p : ℕ). is_attached_at p board ≡ true) c.from-port.ensures (sym c.is_attached.ensures ∙ c.if-not-is_attached.false) in
     transmits_lost live board after node h sent name c.name.result.now c.saturating_add-self.result named owned c.saturating_add-self.ensures

@@ -1,9 +1,8 @@
--- By what comes of the segment.
-use Rattle.std.proofs.Common.{◌≡◌, ◌≤◌, ℕ, List, ap, refl, sym, ◌∙◌, subst, vec_capacity}
+use Rattle.std.proofs.Common.{◌≡◌, ℕ, List, ap, refl, sym, ◌∙◌, subst}
 use Rattle.std.proofs.Math.Seq.{take-length}
 use Rattle.clnp_machine.specs.ClnpViews.Extent.{seen}
-use Rattle.clnp_machine.specs.Reassembly.Arrival.{Arrival, arrival_of}
-use Rattle.clnp_machine.specs.Reassembly.Buffer.{after}
+use Rattle.clnp_machine.specs.Reassembly.Arrival.{Arrival, arrival_of, octet_in}
+use Rattle.clnp_machine.specs.Reassembly.Buffer.{after, data_of}
 use Rattle.clnp_machine.specs.Reassembly.Kept.{IsKept}
 use Rattle.clnp_machine.specs.Reassembly.State.{IsReady, IsWholeSlot, Names, Stands as StandsFor, TableState, said}
 use Rattle.clnp_machine.specs.Local.{Deed, hand_up, takes_in}
@@ -11,92 +10,87 @@ use Rattle.local_entity.specs.declared.action.Action.{Action}
 use Rattle.local_entity.specs.Local.{Appends, Stands}
 use Rattle.local_entity.specs.State.{EntityState}
 use Rattle.local_entity.specs.Seen.{state_of}
-use Rattle.local_entity.proofs.Completed.{completed, completed_slot}
+use Rattle.local_entity.proofs.Completed.{completed, data_at}
 use Rattle.local_entity.proofs.Offering.{kept_stands, offer_is, others, told_ready, told_stands, whole_appends, whole_ready, whole_stands}
 use Rattle.local_entity.proofs.local.Local.offer.Goals as goal
 use Rattle.local_entity.proofs.Buffers.{said_not_whole}
 
-pub joined-octets-requires-clause-whole : goal.joined-octets-requires-clause-whole
-joined-octets-requires-clause-whole c =
-    let ready = subst (λ (e : EntityState). IsReady c.args.now e.table) (sym c.self.view_is) c.requires.ready in
-    let done = completed c.self.inside.table.limits c.args.now (arrival_of c.args.segment) ready.buffers (sym (c.in-Whole.ensures.answered ready.buffers ready.stands)) in
-    let slot = completed_slot c.accept.new.self c.in-Whole.slot.0 (arrival_of c.args.segment) (after c.self.inside.table.limits c.args.now (arrival_of c.args.segment) ready.buffers)
-    (c.in-Whole.ensures.stands ready.buffers ready.stands) (c.accept.ensures.slot c.in-Whole.slot c.in-Whole.is) done in
-    (slot.0, subst (λ n. n ≤ vec_capacity c.in_ok-room.room) (sym slot.1) c.in_ok-room.ensures.room)
+pub hand_up_whole-requires-clause-whole : goal.hand_up_whole-requires-clause-whole
+hand_up_whole-requires-clause-whole c = c.accept.ensures.whole c.in-Whole.slot c.in-Whole.is
 
 pub undo-requires : goal.undo-requires
 undo-requires c =
-    subst (λ (t : TableState). IsWholeSlot t c.in-Whole.slot.0) (sym (ap (λ (e : EntityState). e.table) c.self-in-Whole.view_is ∙ c.hand_up.ensures.table))
+    subst (λ (t : TableState). IsWholeSlot t c.in-Whole.slot.0) (sym (ap (λ (e : EntityState). e.table) c.self-in-Whole.view_is ∙ c.hand_up_whole.ensures.table))
     (c.accept.ensures.whole c.in-Whole.slot c.in-Whole.is)
 
 pub release-requires : goal.release-requires
 release-requires c =
-    subst (λ (t : TableState). IsWholeSlot t c.in-Whole.slot.0) (sym (ap (λ (e : EntityState). e.table) c.self-in-Whole.view_is ∙ c.hand_up.ensures.table))
+    subst (λ (t : TableState). IsWholeSlot t c.in-Whole.slot.0) (sym (ap (λ (e : EntityState). e.table) c.self-in-Whole.view_is ∙ c.hand_up_whole.ensures.table))
     (c.accept.ensures.whole c.in-Whole.slot c.in-Whole.is)
 
 -- where it isn't handed up, the table is as before the segment came
-undone : (c : goal.After-drop-frame-inside-in_default-hand_up) → c.undo.new.self ≡ c.self.inside.table
+undone : (c : goal.After-drop-frame-inside-in_default-hand_up_whole) → c.undo.new.self ≡ c.self.inside.table
 undone c =
-    let table_is : c.self-in-Whole.inside.table ≡ c.accept.new.self = ap (λ (e : EntityState). e.table) c.self-in-Whole.view_is ∙ c.hand_up.ensures.table in
+    let table_is : c.self-in-Whole.inside.table ≡ c.accept.new.self = ap (λ (e : EntityState). e.table) c.self-in-Whole.view_is ∙ c.hand_up_whole.ensures.table in
     c.undo.ensures.as_before c.self.inside.table c.args.now c.args.segment
     (subst (λ (t : TableState). IsKept c.args.now c.args.segment c.self.inside.table t) (sym table_is) (c.in-Whole.ensures.kept refl))
     (subst (λ (t : TableState). Names t c.in-Whole.slot.0 c.args.segment.key) (sym table_is) (c.accept.ensures.slot c.in-Whole.slot c.in-Whole.is))
 
-pub returns-in_default-hand_up-clause-same : goal.returns-in_default-hand_up-clause-same
-returns-in_default-hand_up-clause-same c =
-    ap (λ (e : EntityState). record e { table = c.undo.new.self }) (c.self-in-Whole.view_is ∙ c.in_default-hand_up.ensures.same)
+pub returns-in_default-hand_up_whole-clause-same : goal.returns-in_default-hand_up_whole-clause-same
+returns-in_default-hand_up_whole-clause-same c =
+    ap (λ (e : EntityState). record e { table = c.undo.new.self }) (c.self-in-Whole.view_is ∙ c.in_default-hand_up_whole.ensures.same)
     ∙ ap (λ (t : TableState). record (state_of c.self.inside) { table = t }) (undone c)
     ∙ c.self.view_is
 
-pub returns-in_default-hand_up-clause-ready : goal.returns-in_default-hand_up-clause-ready
-returns-in_default-hand_up-clause-ready c =
+pub returns-in_default-hand_up_whole-clause-ready : goal.returns-in_default-hand_up_whole-clause-ready
+returns-in_default-hand_up_whole-clause-ready c =
     subst (λ (t : TableState). IsReady c.args.now t) (sym (undone c))
     (subst (λ (e : EntityState). IsReady c.args.now e.table) (sym c.self.view_is) c.requires.ready)
 
-pub returns-in-Ok-hand_up-clause-stands : goal.returns-in-Ok-hand_up-clause-stands
-returns-in-Ok-hand_up-clause-stands c s content arrival stands moment shows same purpose =
+pub returns-in-Ok-hand_up_whole-clause-stands : goal.returns-in-Ok-hand_up_whole-clause-stands
+returns-in-Ok-hand_up_whole-clause-stands c s content arrival stands moment shows same purpose =
     let here = subst (λ (e : EntityState). Stands e s) (sym c.self.view_is) stands in
     let told = c.in-Whole.ensures.answered here.buffers here.table in
     let done = completed c.self.inside.table.limits c.args.now (arrival_of c.args.segment) here.buffers (sym told) in
     let later = after c.self.inside.table.limits c.args.now (arrival_of c.args.segment) here.buffers in
-    let table_is : c.self-in-Whole.inside.table ≡ c.accept.new.self = ap (λ (e : EntityState). e.table) c.self-in-Whole.view_is ∙ c.hand_up.ensures.table in
+    let octets = data_of octet_in done.buffer in
+    let table_is : c.self-in-Whole.inside.table ≡ c.accept.new.self = ap (λ (e : EntityState). e.table) c.self-in-Whole.view_is ∙ c.hand_up_whole.ensures.table in
     let kept = c.in-Whole.ensures.stands here.buffers here.table in
     let named = c.accept.ensures.slot c.in-Whole.slot c.in-Whole.is in
     let buffers = others (state_of c.self.inside) c.args.now c.args.segment s content arrival here moment shows in
     whole_stands (state_of c.self.inside) c.args.now c.args.segment s content arrival here moment shows (state_of c.self-in-Whole.inside) c.release.new.self
-    c.joined-octets.result done.buffer told done.found
-    (c.joined-octets.ensures later done.buffer kept done.found_by_key (subst (Names c.accept.new.self c.in-Whole.slot.0) (sym done.key) named))
+    octets done.buffer told done.found refl
     (subst (λ (e : EntityState). Stands e (hand_up (record s { buffers = buffers }) arrival.carried.unit.kind c.args.segment.key.from c.args.segment.key.to
-    c.joined-octets.result arrival.carried.options).after) (sym c.self-in-Whole.view_is)
-    (c.in-Ok-hand_up.ensures.stands (record s { buffers = buffers }) arrival.carried.unit.kind arrival.carried.options
+    octets arrival.carried.options).after) (sym c.self-in-Whole.view_is)
+    (c.in-Ok-hand_up_whole.ensures.stands (record s { buffers = buffers }) arrival.carried.unit.kind arrival.carried.options octets
     (kept_stands (state_of c.self.inside) c.args.now c.args.segment s content arrival here moment shows c.accept.new.self c.accept.ensures.limits kept)
-    moment purpose))
+    moment purpose (data_at c.accept.new.self c.in-Whole.slot.0 (arrival_of c.args.segment) later kept named done)))
     c.release.ensures.limits
     (c.release.ensures.stands later c.args.segment.key (subst (λ (t : TableState). StandsFor t later) (sym table_is) kept)
     (subst (λ (t : TableState). Names t c.in-Whole.slot.0 c.args.segment.key) (sym table_is) named))
 
-pub returns-in-Ok-hand_up-clause-actions : goal.returns-in-Ok-hand_up-clause-actions
-returns-in-Ok-hand_up-clause-actions c s content arrival stands moment shows same purpose =
+pub returns-in-Ok-hand_up_whole-clause-actions : goal.returns-in-Ok-hand_up_whole-clause-actions
+returns-in-Ok-hand_up_whole-clause-actions c s content arrival stands moment shows same purpose =
     let here = subst (λ (e : EntityState). Stands e s) (sym c.self.view_is) stands in
     let told = c.in-Whole.ensures.answered here.buffers here.table in
     let done = completed c.self.inside.table.limits c.args.now (arrival_of c.args.segment) here.buffers (sym told) in
     let later = after c.self.inside.table.limits c.args.now (arrival_of c.args.segment) here.buffers in
+    let octets = data_of octet_in done.buffer in
     let kept = c.in-Whole.ensures.stands here.buffers here.table in
     let named = c.accept.ensures.slot c.in-Whole.slot c.in-Whole.is in
     let buffers = others (state_of c.self.inside) c.args.now c.args.segment s content arrival here moment shows in
-    whole_appends (state_of c.self.inside) c.args.now c.args.segment s content arrival here moment shows c.joined-octets.result done.buffer
-    c.args.out.now.items c.hand_up.new.out.items told done.found
-    (c.joined-octets.ensures later done.buffer kept done.found_by_key (subst (Names c.accept.new.self c.in-Whole.slot.0) (sym done.key) named))
-    (subst (λ (before : List Action). Appends before c.hand_up.new.out.items (hand_up (record s { buffers = buffers }) arrival.carried.unit.kind
-    c.args.segment.key.from c.args.segment.key.to c.joined-octets.result arrival.carried.options).actions) c.reserve.ensures.items
-    (c.in-Ok-hand_up.ensures.actions (record s { buffers = buffers }) arrival.carried.unit.kind arrival.carried.options
+    whole_appends (state_of c.self.inside) c.args.now c.args.segment s content arrival here moment shows octets done.buffer
+    c.args.out.now.items c.hand_up_whole.new.out.items told done.found refl
+    (subst (λ (before : List Action). Appends before c.hand_up_whole.new.out.items (hand_up (record s { buffers = buffers }) arrival.carried.unit.kind
+    c.args.segment.key.from c.args.segment.key.to octets arrival.carried.options).actions) c.reserve.ensures.items
+    (c.in-Ok-hand_up_whole.ensures.actions (record s { buffers = buffers }) arrival.carried.unit.kind arrival.carried.options octets
     (kept_stands (state_of c.self.inside) c.args.now c.args.segment s content arrival here moment shows c.accept.new.self c.accept.ensures.limits kept)
-    moment purpose))
+    moment purpose (data_at c.accept.new.self c.in-Whole.slot.0 (arrival_of c.args.segment) later kept named done)))
 
-pub returns-in-Ok-hand_up-clause-ready : goal.returns-in-Ok-hand_up-clause-ready
-returns-in-Ok-hand_up-clause-ready c =
+pub returns-in-Ok-hand_up_whole-clause-ready : goal.returns-in-Ok-hand_up_whole-clause-ready
+returns-in-Ok-hand_up_whole-clause-ready c =
     let ready = subst (λ (e : EntityState). IsReady c.args.now e.table) (sym c.self.view_is) c.requires.ready in
-    let table_is : c.self-in-Whole.inside.table ≡ c.accept.new.self = ap (λ (e : EntityState). e.table) c.self-in-Whole.view_is ∙ c.hand_up.ensures.table in
+    let table_is : c.self-in-Whole.inside.table ≡ c.accept.new.self = ap (λ (e : EntityState). e.table) c.self-in-Whole.view_is ∙ c.hand_up_whole.ensures.table in
     let later = after c.self.inside.table.limits c.args.now (arrival_of c.args.segment) ready.buffers in
     whole_ready c.self.inside.table c.release.new.self c.args.now c.args.segment ready c.self.invariant c.requires.offered.alive
     (sym (c.in-Whole.ensures.answered ready.buffers ready.stands))

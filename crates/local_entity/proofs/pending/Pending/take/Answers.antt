@@ -1,6 +1,6 @@
 use Rattle.std.proofs.Common.{ℕ, ◌∙◌, List, Some, sym, ap, subst, arith}
 use Rattle.std.specs.Prelude.{option_map}
-use Rattle.clnp_machine.specs.Unit as unit
+use Rattle.clnp_machine.specs.Unit.{DataUnit}
 use Rattle.clnp_machine.specs.Local.{is_answer, without_answered}
 use Rattle.local_entity.specs.declared.pending.Request.{Request}
 use Rattle.local_entity.specs.Local.{AreRequests}
@@ -10,12 +10,12 @@ use Rattle.local_entity.proofs.pending.Pending.take.Goals as goal
 pub returns-in_err-place-clause-number : goal.returns-in_err-place-clause-number
 returns-in_err-place-clause-number c = λ pending are.
     let none = none_taken c.args.from.now c.args.to.now c.args.body.now 0 c.args.self.now pending are (sym c.place_of.ensures ∙ c.in_err-place.was) in
-    c.from_residual.ensures ∙ sym (ap (option_map (λ (u : unit.Unit). u.number)) none.none)
+    c.from_residual.ensures ∙ sym (ap (option_map (λ (u : DataUnit). u.number)) none.none)
 
 pub returns-in_err-place-clause-left : goal.returns-in_err-place-clause-left
 returns-in_err-place-clause-left c = λ pending are.
     let none = none_taken c.args.from.now c.args.to.now c.args.body.now 0 c.args.self.now pending are (sym c.place_of.ensures ∙ c.in_err-place.was) in
-    subst (λ (l : List unit.Unit). AreRequests c.args.self.now l) (sym none.left) are
+    subst (λ (l : List DataUnit). AreRequests c.args.self.now l) (sym none.left) are
 
 pub take_out-requires : goal.take_out-requires
 take_out-requires c =

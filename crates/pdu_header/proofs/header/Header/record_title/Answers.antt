@@ -35,7 +35,7 @@ invariant_of-self c =
     let h : SpellsHeader v c.self.inside.cells = c.self.invariant.1 in
     let read : SpellsHeader v c.as_bytes.result.now = rw c.as_bytes.ensures.octets h in
     let start : StartsAt v c.options_index-start.result = c.options_index-start.ensures v read in
-    let P : List ℕ → Type 0 = λ t. IsEdited c.options_index-start.result (edited recording (recorded t)) c.self.inside.cells c.record_title.new.self in
+    let P : List ℕ → Type 0 = λ t. IsEdited c.options_index-start.result (edited recording (recorded t)) c.self.inside.cells c.record_title.new.cells in
     let edit = subst P c.as_bytes-2.ensures.octets c.record_title.ensures in
     (with_options ((edited recording (recorded c.args.title.now)) v.options) v, edit_spells v (edited recording (recorded c.args.title.now)) c.self.inside.cells _ _ _ c.options_index-start.result h start edit c.as_bytes-3.ensures.octets c.take_over.ensures.changed)
 
@@ -45,7 +45,7 @@ returns-clause-spells c w spelt =
     let h : SpellsHeader v c.self.inside.cells = rw c.self.view_is spelt in
     let read : SpellsHeader v c.as_bytes.result.now = rw c.as_bytes.ensures.octets h in
     let start : StartsAt v c.options_index-start.result = c.options_index-start.ensures v read in
-    let P : List ℕ → Type 0 = λ t. IsEdited c.options_index-start.result (edited recording (recorded t)) c.self.inside.cells c.record_title.new.self in
+    let P : List ℕ → Type 0 = λ t. IsEdited c.options_index-start.result (edited recording (recorded t)) c.self.inside.cells c.record_title.new.cells in
     let edit = subst P c.as_bytes-2.ensures.octets c.record_title.ensures in
     edit_spells v (edited recording (recorded c.args.title.now)) c.self.inside.cells _ _ _ c.options_index-start.result h start edit c.as_bytes-3.ensures.octets c.take_over.ensures.changed
 

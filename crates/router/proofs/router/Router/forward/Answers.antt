@@ -1,21 +1,19 @@
 -- The pieces go on under their own headers, over the data in the frame, and then the redirect, if there is one.
-use Rattle.std.proofs.Common.{◌≡◌, ◌∙◌, sym, ap, subst, ℕ, true, List, ◌++◌, length, map}
+use Rattle.std.proofs.Common.{◌≡◌, ◌∙◌, sym, ap, subst, ℕ, true, List, ◌++◌, length, map, None, Some}
 use Rattle.std.proofs.lemmas.Result.{on_ok_weaker}
 use Rattle.clnp_machine.specs.ClnpViews.Extent.{Extent, part, seen, whole}
 use Rattle.clnp_machine.specs.Content.{Labelled}
-use Rattle.clnp_machine.specs.Given.{Appends, AppendsFor}
+use Rattle.clnp_machine.specs.Given.{Appends}
 use Rattle.clnp_machine.specs.Local.{discard}
-use Rattle.clnp_machine.specs.Step.{effect_of, options_behind, redirects}
+use Rattle.clnp_machine.specs.Step.{effect_of, hop_by, options_behind, redirects}
+use Rattle.clnp_machine.specs.declared.way.Hop.{Hop}
 use Rattle.clnp_machine.specs.System.{Effect, Output, SystemState}
 use Rattle.clnp_machine.specs.Unit.{value_of}
 use Rattle.system_entity.specs.LocalEntity.Sending.{transmission}
-use Rattle.system_entity.specs.LocalEntity.declared.sending.Hop.{Hop}
 use Rattle.system_entity.specs.Stands as entity
 use Rattle.system_entity.specs.State.{SystemEntityState}
-use Rattle.system_entity.specs.Ways.{machine_way}
-use Rattle.router.specs.Onward.{way_hop}
 use Rattle.router.specs.State.{RouterState}
-use Rattle.router.proofs.Going.{data_in, hop_is, appends_for, appends_for_both}
+use Rattle.router.proofs.Going.{data_in, appends_whatever_came, appends_both}
 use Rattle.router.proofs.Passing.{onward}
 use Rattle.router.proofs.router.Router.forward.Goals as goal
 
@@ -34,8 +32,8 @@ returns-in-Err-clause-outputs c =
     on_ok_weaker c.discard.result (λ dropped s p following h carriable has frame.
     let stands = subst (λ (router : RouterState). entity.Stands router.entity s) (sym c.self.view_is) h in
     let is = c.in-Err.ensures.goes s c.args.came.now p following h carriable has in
-    appends_for s.moment (Labelled p following) c.args.out.now.items c.discard.new.out.items (onward s c.args.came.now p following).outputs
-    (subst (λ (others : List Output). Appends s.moment c.args.out.now.items c.discard.new.out.items others)
+    appends_whatever_came s.moment (Labelled p following) c.args.out.now.items c.discard.new.out.items (onward s c.args.came.now p following).outputs
+    (subst (λ (others : List Output). Appends s.moment None c.args.out.now.items c.discard.new.out.items others)
     (ap (λ (reason : ℕ). (effect_of (discard s (Labelled p following) reason 0)).outputs) c.code.ensures ∙ sym (ap (λ (e : Effect). e.outputs) is))
     (dropped s (Labelled p following) stands carriable (sym frame))))
     c.discard.ensures.outputs
@@ -58,19 +56,19 @@ returns-in_default-clause-outputs c = λ s p following h carriable has frame.
     let body : Extent = part (length head) len (whole c.args.frame.now) in
     let shown : seen body ≡ (value_of p).body =
     data_in c.args.frame.now head following (value_of p) len frame (c.as_bytes-from.ensures.octets ∙ has.header.octets_are) has.len in
-    let hop : c.hop.result ≡ way_hop way = hop_is c.hop.result way c.hop.ensures in
-    let first : AppendsFor s.moment (Labelled p following) c.args.out.now.items c.pass_on.new.out.items goes.pieces =
+    let first : Appends s.moment (Some (Labelled p following)) c.args.out.now.items c.pass_on.new.out.items goes.pieces =
     record {
-      outputs = map (transmission true (way_hop way) body) c.in-Ok.field-0.cuts;
-      appended = subst (λ (to : Hop). c.pass_on.new.out.items ≡ c.args.out.now.items ++ map (transmission true to body) c.in-Ok.field-0.cuts) hop
+      outputs = map (transmission true (hop_by way) body) c.in-Ok.field-0.cuts;
+      appended = subst (λ (to : Hop). c.pass_on.new.out.items ≡ c.args.out.now.items ++ map (transmission true to body) c.in-Ok.field-0.cuts)
+          c.hop.ensures
           c.in_ok-pass_on-in-Ok.ensures.given;
       give_all = goes.given body shown (ap length shown ∙ has.len);
     } in
-    let second = appends_for s.moment (Labelled p following) c.pass_on.new.out.items c.redirect.new.out.items
-    (redirects s c.args.came.now p (options_behind s p.options) (machine_way way))
+    let second = appends_whatever_came s.moment (Labelled p following) c.pass_on.new.out.items c.redirect.new.out.items
+    (redirects s c.args.came.now p (options_behind s p.options) way)
     (c.in_default.ensures.outputs s p (options_behind s p.options)
     (subst (λ (e : SystemEntityState). entity.Stands e s) (sym c.in_ok-pass_on-in-Ok.ensures.same) stands) has goes.towards_title) in
-    subst (λ (others : List Output). AppendsFor s.moment (Labelled p following) c.args.out.now.items c.redirect.new.out.items others)
+    subst (λ (others : List Output). Appends s.moment (Some (Labelled p following)) c.args.out.now.items c.redirect.new.out.items others)
     (sym goes.outputs)
-    (appends_for_both s.moment (Labelled p following) c.args.out.now.items c.pass_on.new.out.items c.redirect.new.out.items goes.pieces
-    (redirects s c.args.came.now p (options_behind s p.options) (machine_way way)) first second)
+    (appends_both s.moment (Some (Labelled p following)) c.args.out.now.items c.pass_on.new.out.items c.redirect.new.out.items goes.pieces
+    (redirects s c.args.came.now p (options_behind s p.options) way) first second)

@@ -1,11 +1,11 @@
 -- What its entity leaves to it is forwarded.
-use Rattle.std.proofs.Common.{◌∙◌, sym, ap, subst, List}
-use Rattle.clnp_machine.specs.EsisTables.declared.fact.Place.{Place}
+use Rattle.std.proofs.Common.{◌∙◌, sym, ap, subst, List, Some}
+use Rattle.clnp_machine.specs.EsisTables.declared.fact.Neighbour.{Neighbour}
 use Rattle.clnp_machine.specs.ClnpPlan.Configuration.{SystemConfiguration}
 use Rattle.clnp_machine.specs.ClnpPlan.declared.config.Role.TheVariants as role
 use Rattle.clnp_machine.specs.ClnpPlan.declared.output.Output.{Output}
 use Rattle.clnp_machine.specs.Content.{Content, Labelled, frame_of}
-use Rattle.clnp_machine.specs.Given.{AppendsFor}
+use Rattle.clnp_machine.specs.Given.{Appends}
 use Rattle.clnp_machine.specs.Step.{content_comes}
 use Rattle.clnp_machine.specs.System as machine
 use Rattle.clnp_machine.specs.System.{FrameComes, SystemState}
@@ -18,19 +18,19 @@ use Rattle.system_entity.proofs.Both.{on_ok_both}
 use Rattle.router.specs.State.{RouterState}
 use Rattle.router.proofs.Passing.{onward, passed_after, passed_outputs}
 use Rattle.router.proofs.router.Router.frame.Goals as goal
-use Rattle.router.proofs.Going.{appends_for}
+use Rattle.router.proofs.Going.{appends_whatever_came}
 
 pub returns-in-Done-clause-step : goal.returns-in-Done-clause-step
 returns-in-Done-clause-step c = λ content carried frame.
-    let place : Place = record { port = c.args.port; snpa = c.args.from } in
+    let neighbour : Neighbour = record { port = c.args.port; snpa = c.args.from } in
     let done = λ (s : SystemState) (h : entity.Stands c.self.inside.entity s).
-    subst (λ (arrival : Arrival). ComesOf arrival s place c.args.group content c.frame.new.self c.args.out.now.items c.frame.new.out.items) c.in-Done.is
+    subst (λ (arrival : Arrival). ComesOf arrival s neighbour c.args.group content c.frame.new.self c.args.out.now.items c.frame.new.out.items) c.in-Done.is
     (c.in_ok-frame.ensures.comes s content h carried frame) in
     subst (λ (router : RouterState). TakesStep role.Router (FrameComes c.args.port c.args.from c.args.group content) router.entity c.frame.new.self
     c.args.out.now.items c.frame.new.out.items) c.self.view_is
     record {
       stands = λ s h. record { not_spent = c.in_ok-frame.ensures.not_spent; parts = (done s h).parts };
-      outputs = λ s h. appends_for s.moment content c.args.out.now.items c.frame.new.out.items (content_comes s place c.args.group content).outputs
+      outputs = λ s h. appends_whatever_came s.moment content c.args.out.now.items c.frame.new.out.items (content_comes s neighbour c.args.group content).outputs
           (done s h).outputs;
       moment = c.in_ok-frame.ensures.moment;
       config = c.in_ok-frame.ensures.config;
@@ -38,12 +38,12 @@ returns-in-Done-clause-step c = λ content carried frame.
 
 pub returns-in-Passes-clause-step : goal.returns-in-Passes-clause-step
 returns-in-Passes-clause-step c =
-    let place : Place = record { port = c.args.port; snpa = c.args.from } in
+    let neighbour : Neighbour = record { port = c.args.port; snpa = c.args.from } in
     let old = c.self.inside.entity in
     let left = subst (λ (arrival : Arrival). LeavesAsItWas arrival old c.frame.new.self c.args.out.now.items c.frame.new.out.items)
     c.in-Passes.is c.in_ok-frame.ensures.left in
     on_ok_both c.forward.result (λ stood gave content carried frame.
-    let other = λ (s : SystemState) (h : entity.Stands old s). subst (λ (arrival : Arrival). ComesOf arrival s place c.args.group content
+    let other = λ (s : SystemState) (h : entity.Stands old s). subst (λ (arrival : Arrival). ComesOf arrival s neighbour c.args.group content
     c.frame.new.self c.args.out.now.items c.frame.new.out.items) c.in-Passes.is (c.in_ok-frame.ensures.comes s content h carried frame) in
     let is_router = λ (s : SystemState) (h : entity.Stands old s).
     ap (λ (system : SystemConfiguration). system.role) (sym h.parts.local.configuration) ∙ c.self.invariant in
@@ -54,20 +54,20 @@ returns-in-Passes-clause-step c =
     record {
       stands = λ s h.
           let o = other s h in
-          subst (λ (what : Content). entity.Stands c.forward.new.self.entity (content_comes s place c.args.group what).after) (sym o.content_is)
+          subst (λ (what : Content). entity.Stands c.forward.new.self.entity (content_comes s neighbour c.args.group what).after) (sym o.content_is)
           (subst (λ (t : SystemState). entity.Stands c.forward.new.self.entity t)
-          (passed_after s place c.args.group o.packet o.following (is_router s h) o.alive o.not_own)
+          (passed_after s neighbour c.args.group o.packet o.following (is_router s h) o.alive o.not_own)
           (stood s o.packet o.following (still s h) o.carriable o.has_value (octets s h)));
       outputs = λ s h.
           let o = other s h in
           let p = o.packet in
           let following = o.following in
-          subst (λ (what : Content). AppendsFor s.moment what c.args.out.now.items c.forward.new.out.items
-          (content_comes s place c.args.group what).outputs) (sym o.content_is)
-          (subst (λ (others : List machine.Output). AppendsFor s.moment (Labelled p following) c.args.out.now.items c.forward.new.out.items others)
-          (passed_outputs s place c.args.group p following (is_router s h) o.alive o.not_own
-          (c.deeds_are_of_their_moment.ensures.packet s place p following).itself.configuration)
-          (subst (λ (before : List Output). AppendsFor s.moment (Labelled p following) before c.forward.new.out.items (onward s place p following).outputs)
+          subst (λ (what : Content). Appends s.moment (Some what) c.args.out.now.items c.forward.new.out.items
+          (content_comes s neighbour c.args.group what).outputs) (sym o.content_is)
+          (subst (λ (others : List machine.Output). Appends s.moment (Some (Labelled p following)) c.args.out.now.items c.forward.new.out.items others)
+          (passed_outputs s neighbour c.args.group p following (is_router s h) o.alive o.not_own
+          (c.deeds_are_of_their_moment.ensures.packet s neighbour p following).itself.configuration)
+          (subst (λ (before : List Output). Appends s.moment (Some (Labelled p following)) before c.forward.new.out.items (onward s neighbour p following).outputs)
           left.1 (gave s p following (still s h) o.carriable o.has_value (octets s h))));
       moment = c.forward.ensures.moment ∙ c.in_ok-frame.ensures.moment;
       config = c.forward.ensures.config ∙ c.in_ok-frame.ensures.config;

@@ -36,7 +36,7 @@ returns-in_default-get-clause-goes c = λ s came p following h carriable has edi
     sym (by_its_port s came p following behind c.towards-to.result towards_it c.way.result c.in-Some.way c.in-Some.is (c.way.ensures s s.moment stands.parts)
     c.is_barred.result (c.is_barred.ensures (with_options behind (value_of p)) edited) c.ports.result.now None c.if-is_barred.false
     (c.ports.ensures.stands s s.moment stands.parts)
-    (port_missing c.ports.result.now c.in-Some.way.port c.from.result c.from.ensures c.in_default-get.ensures.lookup.0))
+    (port_missing c.ports.result.now c.in-Some.way.neighbour.port c.from.result c.from.ensures c.in_default-get.ensures.lookup.0))
 
 pub returns-clause-goes : goal.returns-clause-goes
 returns-clause-goes c = λ s came p following h carriable has edited.
@@ -48,6 +48,6 @@ returns-clause-goes c = λ s came p following h carriable has edited.
     (by_its_port s came p following behind c.towards-to.result towards_it c.way.result c.in-Some.way c.in-Some.is (c.way.ensures s s.moment stands.parts)
     c.is_barred.result (c.is_barred.ensures (with_options behind (value_of p)) edited) c.ports.result.now (Some port) c.if-is_barred.false
     (c.ports.ensures.stands s s.moment stands.parts)
-    (port_at c.ports.result.now c.in-Some.way.port c.from.result port c.from.ensures c.in-Some-get.ensures.lookup.0
+    (port_at c.ports.result.now c.in-Some.way.neighbour.port c.from.result port c.from.ensures c.in-Some-get.ensures.lookup.0
     c.in-Some-get.ensures.lookup.1))
     (c.by_port.ensures.goes s came p following carriable has edited)

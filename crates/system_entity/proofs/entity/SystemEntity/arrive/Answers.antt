@@ -1,5 +1,5 @@
 -- The frame is a packet's, or refused.
-use Rattle.std.proofs.Common.{◌∙◌, sym, ap, subst, Some}
+use Rattle.std.proofs.Common.{◌∙◌, sym, ap, subst, Some, None}
 use Rattle.std.proofs.lemmas.Result.{IfOk-weaker}
 use Rattle.clnp_machine.specs.PduHeader.Value.{PduValue}
 use Rattle.clnp_machine.specs.PduHeader.View.{pdu_value}
@@ -15,7 +15,7 @@ returns-in-Ok-clause-comes c =
     IfOk-weaker c.pdu_comes.result _ _
     (λ arrival comes s content h carried frame.
     packet_found c.a_frame_carries_one_packet.ensures c.no_frame_is_of_both_protocols.ensures.esis
-    (λ content. ComesOf arrival s c.args.place c.args.group content c.pdu_comes.new.self c.args.out.now.items c.pdu_comes.new.out.items)
+    (λ content. ComesOf arrival s c.args.neighbour c.args.group content c.pdu_comes.new.self c.args.out.now.items c.pdu_comes.new.out.items)
     c.bytes.result.now (pdu_value c.in-Ok.pdu) c.in-Ok.pdu.rest.now c.in-Ok.ensures.found c.in-Ok.ensures.accepted.0 content carried (frame ∙ sym c.bytes.ensures)
     (λ p following carriable same value. comes s p following h carriable (sym c.bytes.ensures ∙ same)
     (subst (λ (v : PduValue). HasValue c.of.result v) value c.of.ensures)))
@@ -23,11 +23,11 @@ returns-in-Ok-clause-comes c =
 
 pub returns-in_ok-drop_frame-in-Err-Broken-clause-comes : goal.returns-in_ok-drop_frame-in-Err-Broken-clause-comes
 returns-in_ok-drop_frame-in-Err-Broken-clause-comes c = λ s content h carried frame.
-    let same = frame_broken c.no_frame_is_of_both_protocols.ensures.esis s c.args.place c.args.group c.bytes.result.now c.in-Err-Broken.broken
+    let same = frame_broken c.no_frame_is_of_both_protocols.ensures.esis s c.args.neighbour c.args.group c.bytes.result.now c.in-Err-Broken.broken
     (c.in-Err-Broken.ensures.judged ∙ ap Some c.in-Err-Broken.field-0-is) c.in-Err-Broken.ensures.none content carried (frame ∙ sym c.bytes.ensures) in
     record {
       parts = subst (λ (e : Effect). PartsStand c.drop_frame.new.self e.after) same
           (c.in_ok-drop_frame-in-Err-Broken.ensures.stands s content h carried frame);
-      outputs = subst (λ (e : Effect). Appends s.moment c.args.out.now.items c.drop_frame.new.out.items e.outputs) same
+      outputs = subst (λ (e : Effect). Appends s.moment None c.args.out.now.items c.drop_frame.new.out.items e.outputs) same
           (c.in_ok-drop_frame-in-Err-Broken.ensures.outputs s content h carried frame);
     }

@@ -1,5 +1,5 @@
 -- Buffers end, what was heard is forgotten, and a hello may be due.
-use Rattle.std.proofs.Common.{◌≡◌, ◌∙◌, ℕ, ◌≤◌, sym, ap, subst, ◌++◌, length}
+use Rattle.std.proofs.Common.{◌≡◌, ◌∙◌, ℕ, ◌≤◌, sym, ap, subst, ◌++◌, length, None}
 use Rattle.std.specs.List.{AllByRecursion}
 use Rattle.clnp_machine.specs.Reassembly.State.{IsReady}
 use Rattle.clnp_machine.specs.Given.{Appends}
@@ -58,13 +58,13 @@ returns-clause-outputs c = λ s h.
     let configuration : t.configuration ≡ c.config.result.now = sym stands.local.configuration ∙ sym c.config.ensures in
     let number : length t.attached.ports ≡ c.port_count-ports.result = ap length (sym stands.ports) ∙ sym c.port_count-ports.ensures in
     let done = all_done c.new-actions.result.items c.tick.new.out.items deed.actions c.new-actions.ensures.items (c.in_ok-tick.ensures.actions s parts.local) in
-    let first = subst (λ (m : ℕ). Appends m c.new-outputs.result.items c.give_out.new.out.items (effect_of deed).outputs) now
+    let first = subst (λ (m : ℕ). Appends m None c.new-outputs.result.items c.give_out.new.out.items (effect_of deed).outputs) now
     (c.in_ok-give_out.ensures t s.moment deed.actions stands done
     (subst (λ (m : ℕ). AllByRecursion (IsFresh m) deed.actions) (sym now) (deed_is_fresh (at_moment c.args.now s) deed is))) in
     let second = c.in_ok-tick-2.ensures.outputs t s.moment stands.esis configuration number now (subst (λ (m : ℕ). s.moment ≤ m) now stands.since) in
     appends_fresh c.args.now c.new-outputs.result.items c.tick-2.new.out.items c.args.out.now.items c.append.new.self.items
     ((effect_of deed).outputs ++ (then_does (forgets s.moment t) says_hello).outputs) c.new-outputs.ensures.items c.in_ok-append.ensures.items
-    (appends_both c.args.now c.new-outputs.result.items c.give_out.new.out.items c.tick-2.new.out.items (effect_of deed).outputs
+    (appends_both c.args.now None c.new-outputs.result.items c.give_out.new.out.items c.tick-2.new.out.items (effect_of deed).outputs
     (then_does (forgets s.moment t) says_hello).outputs first second)
 
 pub returns-clause-ready : goal.returns-clause-ready

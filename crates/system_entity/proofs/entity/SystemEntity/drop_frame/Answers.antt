@@ -1,5 +1,5 @@
 -- The entity notes it, and what it does is given out.
-use Rattle.std.proofs.Common.{ℕ, sym, subst}
+use Rattle.std.proofs.Common.{ℕ, sym, subst, None}
 use Rattle.std.specs.List.{AllByRecursion}
 use Rattle.clnp_machine.specs.Given.{Appends}
 use Rattle.clnp_machine.specs.Local.{discard}
@@ -38,7 +38,7 @@ returns-clause-outputs c = λ s content h carried frame.
     let done = all_done c.new-actions.result.items c.discard.new.out.items deed.actions c.new-actions.ensures.items
     (c.in_ok-discard.ensures.actions s content parts.local (sym parts.moment) carried frame) in
     let is = c.deeds_are_of_their_moment.ensures.discard s content c.args.reason c.args.place in
-    let given = subst (λ (m : ℕ). Appends m c.new-outputs.result.items c.give_out.new.out.items (effect_of deed).outputs) is.moment
+    let given = subst (λ (m : ℕ). Appends m None c.new-outputs.result.items c.give_out.new.out.items (effect_of deed).outputs) is.moment
     (c.in_ok-give_out.ensures deed.after deed.after.moment deed.actions (returns-clause-stands c s content h carried frame) done
     (subst (λ (m : ℕ). AllByRecursion (IsFresh m) deed.actions) (sym is.moment) (deed_is_fresh s deed is))) in
     appends_fresh s.moment c.new-outputs.result.items c.give_out.new.out.items c.args.out.now.items c.append.new.self.items _

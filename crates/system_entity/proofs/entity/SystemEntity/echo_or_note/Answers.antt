@@ -3,7 +3,7 @@ use Rattle.std.proofs.Common.{sym, subst}
 use Rattle.std.proofs.lemmas.Result.{on_ok_weaker}
 use Rattle.clnp_machine.specs.PduHeader.declared.kind.Kind.TheVariants.{Erq}
 use Rattle.clnp_machine.specs.ClnpPlan.declared.ask.Ask.{Ask}
-use Rattle.clnp_machine.specs.Local as machine
+use Rattle.clnp_machine.specs.Local as locally
 use Rattle.clnp_machine.specs.System.{SystemState}
 use Rattle.system_entity.specs.Deeds.{DoesDeed}
 use Rattle.system_entity.specs.State.{SystemEntityState}
@@ -14,7 +14,7 @@ pub returns-clause-step : goal.returns-clause-step
 returns-clause-step c =
     on_ok_weaker c.make_or_note.result (λ did role.
     let does = λ (s : SystemState) (h : Stands c.args.self.now s).
-    subst (λ (ask : Ask). DoesDeed s.moment (machine.make s Erq c.args.from c.args.to c.args.body.now ask)
+    subst (λ (ask : Ask). DoesDeed s.moment (locally.make s Erq c.args.from c.args.to c.args.body.now ask)
     c.make_or_note.new.self c.args.out.now.items c.make_or_note.new.out.items)
     (c.echo_ask-ask.ensures.value s (subst (λ (e : SystemEntityState). Stands e s) (sym c.self.view_is) h).parts.local) (did s h) in
     record {

@@ -1,7 +1,7 @@
 -- The step is whole, or nothing was done yet.
 use Rattle.std.proofs.Common.{refl, sym, subst, Bool, false, List}
 use Rattle.clnp_machine.specs.Reassembly.State.{IsReady}
-use Rattle.clnp_machine.specs.EsisTables.declared.fact.Place.{Place}
+use Rattle.clnp_machine.specs.EsisTables.declared.fact.Neighbour.{Neighbour}
 use Rattle.clnp_machine.specs.ClnpPlan.declared.output.Output.{Output}
 use Rattle.clnp_machine.specs.Content.{Content}
 use Rattle.clnp_machine.specs.System.{SystemState}
@@ -14,26 +14,26 @@ use Rattle.system_entity.proofs.Parts.{while_spent}
 use Rattle.system_entity.proofs.entity.SystemEntity.frame.Goals as goal
 
 -- that the entity isn't spent any more changes nothing of what came
-comes_again : (arrival : Arrival) (s : SystemState) (place : Place) (group : Bool) (content : Content) (here : SystemEntityState) (spent : Bool)
-    (before after : List Output) → ComesOf arrival s place group content here before after
-    → ComesOf arrival s place group content (record here { spent = spent }) before after
-comes_again Done s place group content here spent before after h =
+comes_again : (arrival : Arrival) (s : SystemState) (neighbour : Neighbour) (group : Bool) (content : Content) (here : SystemEntityState) (spent : Bool)
+    (before after : List Output) → ComesOf arrival s neighbour group content here before after
+    → ComesOf arrival s neighbour group content (record here { spent = spent }) before after
+comes_again Done s neighbour group content here spent before after h =
     record { parts = while_spent here spent _ h.parts; outputs = h.outputs }
-comes_again (Passes passing) s place group content here spent before after h = h
+comes_again (Passes passing) s neighbour group content here spent before after h = h
 
 -- there is a state for which it stands
-some_state : (arrival : Arrival) (s : SystemState) (place : Place) (group : Bool) (content : Content) (old here : SystemEntityState)
-    (before after : List Output) → ComesOf arrival s place group content here before after → LeavesAsItWas arrival old here before after
+some_state : (arrival : Arrival) (s : SystemState) (neighbour : Neighbour) (group : Bool) (content : Content) (old here : SystemEntityState)
+    (before after : List Output) → ComesOf arrival s neighbour group content here before after → LeavesAsItWas arrival old here before after
     → PartsStand old s → (t : SystemState) × PartsStand here t
-some_state Done s place group content old here before after h left stands = (_, h.parts)
-some_state (Passes passing) s place group content old here before after h left stands =
+some_state Done s neighbour group content old here before after h left stands = (_, h.parts)
+some_state (Passes passing) s neighbour group content old here before after h left stands =
     (s, subst (λ (e : SystemEntityState). PartsStand e s) (sym left.0) stands)
 
 pub returns-clause-comes : goal.returns-clause-comes
 returns-clause-comes c = λ s content h carried frame.
     let here = subst (λ (e : SystemEntityState). Stands e s) (sym c.self.view_is) h in
-    comes_again c.in_ok-arrival.arrival s c.args.place c.args.group content _ false c.args.out.now.items c.arrive.new.out.items
-    (subst (λ (e : SystemEntityState). ComesOf c.in_ok-arrival.arrival s c.args.place c.args.group content e c.args.out.now.items c.arrive.new.out.items)
+    comes_again c.in_ok-arrival.arrival s c.args.neighbour c.args.group content _ false c.args.out.now.items c.arrive.new.out.items
+    (subst (λ (e : SystemEntityState). ComesOf c.in_ok-arrival.arrival s c.args.neighbour c.args.group content e c.args.out.now.items c.arrive.new.out.items)
     (sym c.self-2.view_is) (c.in_ok-arrival.ensures.comes s content (while_spent _ _ s here.parts) carried frame))
 
 pub invariant_of-self-2 : goal.invariant_of-self-2
@@ -41,7 +41,7 @@ invariant_of-self-2 c =
     let old = c.self.invariant.ready c.if-self.false in
     let content = c.has_content.ensures in
     let parts = while_spent _ _ old.state old.stands.parts in
-    let some = some_state c.in_ok-arrival.arrival old.state c.args.place c.args.group content.0 _ c.arrive.new.self c.args.out.now.items c.arrive.new.out.items
+    let some = some_state c.in_ok-arrival.arrival old.state c.args.neighbour c.args.group content.0 _ c.arrive.new.self c.args.out.now.items c.arrive.new.out.items
     (c.in_ok-arrival.ensures.comes old.state content.0 parts content.1 content.2) c.in_ok-arrival.ensures.left parts in
     record {
       moment = c.self-2.invariant.moment;

@@ -1,31 +1,30 @@
 -- A unit goes by the hop towards its destination.
-use Rattle.std.proofs.Common.{◌≡◌, ◌∙◌, sym, subst, ℕ, List, Option}
+use Rattle.std.proofs.Common.{◌≡◌, ◌∙◌, sym, subst, ℕ, List, Option, None}
 use Rattle.std.proofs.lemmas.Result.{on_ok_weaker}
 use Rattle.clnp_machine.specs.ClnpPlan.declared.output.Output.{Output}
 use Rattle.clnp_machine.specs.Given.{Appends}
-use Rattle.clnp_machine.specs.Local as machine
+use Rattle.clnp_machine.specs.Local as locally
 use Rattle.clnp_machine.specs.Local.{Sends, Tells}
-use Rattle.clnp_machine.specs.Step.{Hop, first_sent, outputs_of, unit_hop}
+use Rattle.clnp_machine.specs.Step.{first_sent, outputs_of, unit_hop}
+use Rattle.clnp_machine.specs.declared.way.Hop.{Hop}
 use Rattle.clnp_machine.specs.System.{SystemState}
-use Rattle.clnp_machine.specs.Unit.{Unit as DataUnit}
+use Rattle.clnp_machine.specs.Unit.{DataUnit}
 use Rattle.local_entity.specs.Local.{Does}
-use Rattle.local_entity.specs.Sending.{hop_option}
 use Rattle.local_entity.specs.declared.action.Action.{Action}
 use Rattle.local_entity.specs.declared.action.Action.TheVariants.{Send}
 use Rattle.local_entity.specs.declared.action.Made.{Made}
-use Rattle.local_entity.specs.declared.sending.Hop as local
 use Rattle.system_entity.specs.Deeds.{IsFresh}
 use Rattle.system_entity.proofs.entity.SystemEntity.give.Goals as goal
 
-unit_given : (s : SystemState) (before after : List Output) (action : Action) (made : Made) (hop : Option local.Hop) → action ≡ Send made
-    → ((u : DataUnit) → u.destination ≡ made.to → hop_option hop ≡ unit_hop s u)
-    → ((u : DataUnit) → Does (Send made) (Sends u) → u.first_position ≡ 0 → Appends u.made before after (first_sent s u (hop_option hop)))
-    → (other : machine.Action) → Does action other → IsFresh s.moment other → Appends s.moment before after (outputs_of s other)
+unit_given : (s : SystemState) (before after : List Output) (action : Action) (made : Made) (hop : Option Hop) → action ≡ Send made
+    → ((u : DataUnit) → u.destination ≡ made.to → hop ≡ unit_hop s u)
+    → ((u : DataUnit) → Does (Send made) (Sends u) → u.first_position ≡ 0 → Appends u.made None before after (first_sent s u hop))
+    → (other : locally.Action) → Does action other → IsFresh s.moment other → Appends s.moment None before after (outputs_of s other)
 unit_given s before after action made hop is way given (Sends u) does fresh =
     let here = subst (λ (one : Action). Does one (Sends u)) is does in
-    let same : hop_option hop ≡ unit_hop s u = way u (sym here.1) in
-    subst (λ (m : ℕ). Appends m before after (outputs_of s (Sends u))) fresh.0
-    (subst (λ (h : Option Hop). Appends u.made before after (first_sent s u h)) same (given u here fresh.1))
+    let same : hop ≡ unit_hop s u = way u (sym here.1) in
+    subst (λ (m : ℕ). Appends m None before after (outputs_of s (Sends u))) fresh.0
+    (subst (λ (h : Option Hop). Appends u.made None before after (first_sent s u h)) same (given u here fresh.1))
 unit_given s before after action made hop is way given (Tells note) does fresh =
     absurd (subst (λ (one : Action). Does one (Tells note)) is does)
 

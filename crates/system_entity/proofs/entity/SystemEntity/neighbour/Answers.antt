@@ -1,7 +1,7 @@
 -- What was heard tells it.
 use Rattle.std.proofs.Common.{◌∙◌, sym, ap, subst, ℕ, ◌≤◌}
 use Rattle.clnp_machine.specs.EsisTables.declared.fact.TableKind.TheVariants.{Es}
-use Rattle.clnp_machine.specs.EsisTables.NextHop.{current_place}
+use Rattle.clnp_machine.specs.EsisTables.NextHop.{current_neighbour}
 use Rattle.system_entity.specs.State.{SystemEntityState}
 use Rattle.system_entity.specs.Stands.{PartsStandSince}
 use Rattle.system_entity.proofs.entity.SystemEntity.neighbour.Goals as goal
@@ -10,4 +10,4 @@ pub returns : goal.returns
 returns c = λ s before h.
     let p = subst (λ (e : SystemEntityState). PartsStandSince before e s) (sym c.self.view_is) h in
     c.neighbour.ensures s before p.esis (subst (λ (n : ℕ). before ≤ n) (sym p.moment) p.since)
-    ∙ ap (λ (now : ℕ). current_place now Es c.args.of.now s.facts) p.moment
+    ∙ ap (λ (now : ℕ). current_neighbour now Es c.args.of.now s.facts) p.moment

@@ -1,5 +1,5 @@
 -- An ES-IS PDU is heard, and what isn't one is noted.
-use Rattle.std.proofs.Common.{◌≡◌, ◌∙◌, sym, ap, subst, ℕ, Bool, List}
+use Rattle.std.proofs.Common.{◌≡◌, ◌∙◌, sym, ap, subst, ℕ, Bool, List, None}
 use Rattle.clnp_machine.specs.PduHeader.Rules.{octet}
 use Rattle.clnp_machine.specs.EsisPdus.Value.{EsisValue}
 use Rattle.clnp_machine.specs.EsisPdus.View.{pdu_value}
@@ -19,17 +19,17 @@ use Rattle.system_entity.proofs.Outputs.{appends_note}
 pub returns-in_ok-push-in-Err-clause-stands : goal.returns-in_ok-push-in-Err-clause-stands
 returns-in_ok-push-in-Err-clause-stands c = λ s group content h carried frame.
     subst (λ (e : Effect). PartsStand c.args.self.now e.after)
-    (frame_unheard c.no_frame_is_of_both_protocols.ensures.packet s c.args.place group c.bytes.result.now c.in-Err.refusal
+    (frame_unheard c.no_frame_is_of_both_protocols.ensures.packet s c.args.neighbour group c.bytes.result.now c.in-Err.refusal
     c.in-Err.ensures.judged c.in-Err.ensures.none (λ at. c.requires.other (ap (λ (f : List ℕ). octet f 1) (sym c.bytes.ensures) ∙ at))
     content carried (frame ∙ sym c.bytes.ensures)) h
 
 pub returns-in_ok-push-in-Err-clause-outputs : goal.returns-in_ok-push-in-Err-clause-outputs
 returns-in_ok-push-in-Err-clause-outputs c = λ s group content h carried frame.
-    subst (λ (e : Effect). Appends s.moment c.args.out.now.items c.push.new.self.items e.outputs)
-    (frame_unheard c.no_frame_is_of_both_protocols.ensures.packet s c.args.place group c.bytes.result.now c.in-Err.refusal
+    subst (λ (e : Effect). Appends s.moment None c.args.out.now.items c.push.new.self.items e.outputs)
+    (frame_unheard c.no_frame_is_of_both_protocols.ensures.packet s c.args.neighbour group c.bytes.result.now c.in-Err.refusal
     c.in-Err.ensures.judged c.in-Err.ensures.none (λ at. c.requires.other (ap (λ (f : List ℕ). octet f 1) (sym c.bytes.ensures) ∙ at))
     content carried (frame ∙ sym c.bytes.ensures))
-    (appends_note s.moment c.args.out.now.items c.push.new.self.items _ _ c.in_ok-push-in-Err.ensures.items c.unheard.ensures)
+    (appends_note s.moment None c.args.out.now.items c.push.new.self.items _ _ c.in_ok-push-in-Err.ensures.items c.unheard.ensures)
 
 -- an ES-IS PDU is heard
 module _ (c : goal.In_ok-hear-in-Ok) (s : SystemState) (group : Bool) (content : Content) (h : PartsStand c.args.self.now s)
@@ -49,17 +49,17 @@ module _ (c : goal.In_ok-hear-in-Ok) (s : SystemState) (group : Bool) (content :
       c.in-Ok.ensures.found (λ at. c.requires.other (ap (λ (f : List ℕ). octet f 1) (sym c.bytes.ensures) ∙ at)) content carried
       (frame ∙ sym c.bytes.ensures) for_value
 
-  heard : PartsStand (record (state_of c.self.inside) { esis = c.hear.new.self }) (content_comes s c.args.place group content).after
+  heard : PartsStand (record (state_of c.self.inside) { esis = c.hear.new.self }) (content_comes s c.args.neighbour group content).after
   heard =
-      of_value (λ (came : Content). PartsStand (record (state_of c.self.inside) { esis = c.hear.new.self }) (content_comes s c.args.place group came).after)
-      (λ following. parts_after_hello s.moment (state_of c.self.inside) c.hear.new.self s (esis_comes s c.args.place v)
-      (c.hellos_leave_the_rest.ensures.comes s c.args.place v)
+      of_value (λ (came : Content). PartsStand (record (state_of c.self.inside) { esis = c.hear.new.self }) (content_comes s c.args.neighbour group came).after)
+      (λ following. parts_after_hello s.moment (state_of c.self.inside) c.hear.new.self s (esis_comes s c.args.neighbour v)
+      (c.hellos_leave_the_rest.ensures.comes s c.args.neighbour v)
       (c.in_ok-hear-in-Ok.ensures.stands s parts.esis configuration (sym parts.moment)) parts)
 
-  given : Appends s.moment c.args.out.now.items c.hear.new.out.items (content_comes s c.args.place group content).outputs
+  given : Appends s.moment None c.args.out.now.items c.hear.new.out.items (content_comes s c.args.neighbour group content).outputs
   given =
-      of_value (λ (came : Content). Appends s.moment c.args.out.now.items c.hear.new.out.items (content_comes s c.args.place group came).outputs)
-      (λ following. subst (λ (m : ℕ). Appends m c.args.out.now.items c.hear.new.out.items (esis_comes s c.args.place v).outputs) parts.moment
+      of_value (λ (came : Content). Appends s.moment None c.args.out.now.items c.hear.new.out.items (content_comes s c.args.neighbour group came).outputs)
+      (λ following. subst (λ (m : ℕ). Appends m None c.args.out.now.items c.hear.new.out.items (esis_comes s c.args.neighbour v).outputs) parts.moment
       (c.in_ok-hear-in-Ok.ensures.outputs s parts.esis configuration (sym parts.moment)))
 
 pub returns-in_ok-hear-in-Ok-clause-stands : goal.returns-in_ok-hear-in-Ok-clause-stands

@@ -1,5 +1,5 @@
 -- The lifetime is over, or the packet is the system's.
-use Rattle.std.proofs.Common.{◌≡◌, ◌∙◌, ℕ, true, false, sym, ap, subst, List}
+use Rattle.std.proofs.Common.{◌≡◌, ◌∙◌, ℕ, true, false, sym, ap, subst, List, None}
 use Rattle.std.specs.Prelude.{◌==◌}
 use Rattle.std.proofs.lemmas.Bool.{eq-eqb, ne_eqb}
 use Rattle.clnp_machine.specs.ClnpPlan.Configuration.{SystemConfiguration}
@@ -17,12 +17,12 @@ pub returns-then-pdu-eq0-clause-comes : goal.returns-then-pdu-eq0-clause-comes
 returns-then-pdu-eq0-clause-comes c = λ s p following h carriable frame is.
     let over : (p.lifetime == 0) ≡ true = eq-eqb p.lifetime 0 (is.lifetime ∙ c.if-pdu-eq0.true) in
     record {
-      parts = subst (λ (t : SystemState). PartsStand c.drop_frame.new.self t) (sym (expired_after s p following c.args.place c.args.group over))
+      parts = subst (λ (t : SystemState). PartsStand c.drop_frame.new.self t) (sym (expired_after s p following c.args.neighbour c.args.group over))
           (subst (λ (reason : ℕ). PartsStand c.drop_frame.new.self (discard s (Labelled p following) reason 0).after)
           c.code-reason.ensures (c.in_ok-drop_frame.ensures.stands s (Labelled p following) h carriable (sym frame)));
-      outputs = subst (λ (outputs : List Output). Appends s.moment c.args.out.now.items c.drop_frame.new.out.items outputs)
-          (sym (expired_outputs s p following c.args.place c.args.group over))
-          (subst (λ (reason : ℕ). Appends s.moment c.args.out.now.items c.drop_frame.new.out.items (effect_of (discard s (Labelled p following) reason 0)).outputs)
+      outputs = subst (λ (outputs : List Output). Appends s.moment None c.args.out.now.items c.drop_frame.new.out.items outputs)
+          (sym (expired_outputs s p following c.args.neighbour c.args.group over))
+          (subst (λ (reason : ℕ). Appends s.moment None c.args.out.now.items c.drop_frame.new.out.items (effect_of (discard s (Labelled p following) reason 0)).outputs)
           c.code-reason.ensures (c.in_ok-drop_frame.ensures.outputs s (Labelled p following) h carriable (sym frame)));
     }
 

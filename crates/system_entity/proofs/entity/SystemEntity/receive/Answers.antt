@@ -1,5 +1,5 @@
 -- What the entity does is given out, and then the answer to a group.
-use Rattle.std.proofs.Common.{◌≡◌, ◌∙◌, ℕ, true, sym, ap, subst, List, ◌++◌}
+use Rattle.std.proofs.Common.{◌≡◌, ◌∙◌, ℕ, true, sym, ap, subst, List, ◌++◌, None}
 use Rattle.std.specs.List.{AllByRecursion}
 use Rattle.clnp_machine.specs.ClnpPlan.Configuration.{SystemConfiguration}
 use Rattle.clnp_machine.specs.Given.{Appends}
@@ -36,7 +36,7 @@ returns-clause-stands c = λ s p following h carriable frame alive own.
     let deed = receive s p following in
     let is = c.deeds_are_of_their_moment.ensures.receive s p following in
     let here : SystemEntityState = record (state_of c.self.inside) { local = c.receive.new.self } in
-    subst (λ (t : SystemState). PartsStand here t) (sym (received_after s p following c.args.place c.args.group alive own))
+    subst (λ (t : SystemState). PartsStand here t) (sym (received_after s p following c.args.neighbour c.args.group alive own))
     (parts_now s.moment here deed.after is.moment (parts_after_deed s.moment _ c.receive.new.self s deed is
     (c.in_ok-receive.ensures.stands s p following parts.local (sym parts.moment) carriable frame) parts))
 
@@ -57,9 +57,9 @@ returns-clause-outputs c = λ s p following h carriable frame alive own.
     ap (λ (x : SystemConfiguration). has_address x p.unit.destination) is.itself.configuration ∙ own in
     let second = c.in_ok-respond.ensures t p stands alive own_there in
     let all = appends_fresh t.moment c.new-outputs.result.items c.respond.new.out.items c.args.out.now.items c.append.new.self.items
-    ((effect_of deed).outputs ++ (responds t c.args.place c.args.group p).outputs) c.new-outputs.ensures.items c.in_ok-append.ensures.items
-    (appends_both t.moment c.new-outputs.result.items c.give_out.new.out.items c.respond.new.out.items (effect_of deed).outputs
-    (responds t c.args.place c.args.group p).outputs first second) in
-    subst (λ (outputs : List Output). Appends s.moment c.args.out.now.items c.append.new.self.items outputs)
-    (sym (received_outputs s p following c.args.place c.args.group alive own))
-    (subst (λ (m : ℕ). Appends m c.args.out.now.items c.append.new.self.items ((effect_of deed).outputs ++ (responds t c.args.place c.args.group p).outputs)) is.moment all)
+    ((effect_of deed).outputs ++ (responds t c.args.neighbour c.args.group p).outputs) c.new-outputs.ensures.items c.in_ok-append.ensures.items
+    (appends_both t.moment None c.new-outputs.result.items c.give_out.new.out.items c.respond.new.out.items (effect_of deed).outputs
+    (responds t c.args.neighbour c.args.group p).outputs first second) in
+    subst (λ (outputs : List Output). Appends s.moment None c.args.out.now.items c.append.new.self.items outputs)
+    (sym (received_outputs s p following c.args.neighbour c.args.group alive own))
+    (subst (λ (m : ℕ). Appends m None c.args.out.now.items c.append.new.self.items ((effect_of deed).outputs ++ (responds t c.args.neighbour c.args.group p).outputs)) is.moment all)

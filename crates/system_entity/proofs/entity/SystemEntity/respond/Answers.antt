@@ -1,5 +1,5 @@
 -- Only a host that was asked for through a group answers.
-use Rattle.std.proofs.Common.{◌∙◌, refl, sym, ap, subst}
+use Rattle.std.proofs.Common.{◌∙◌, refl, sym, ap, subst, None}
 use Rattle.std.proofs.lemmas.Result.{on_ok_weaker}
 use Rattle.clnp_machine.specs.ClnpPlan.Configuration.{SystemConfiguration}
 use Rattle.clnp_machine.specs.Given.{Appends}
@@ -12,8 +12,8 @@ use Rattle.system_entity.proofs.Outputs.{appends_none}
 
 pub returns-then-not-group : goal.returns-then-not-group
 returns-then-not-group c = λ s p h alive own.
-    subst (λ (e : Effect). Appends s.moment c.args.out.now.items c.args.out.now.items e.outputs) (sym (alone_is_quiet s c.args.place c.args.group p (search)))
-    (appends_none s.moment c.args.out.now.items c.args.out.now.items refl)
+    subst (λ (e : Effect). Appends s.moment None c.args.out.now.items c.args.out.now.items e.outputs) (sym (alone_is_quiet s c.args.neighbour c.args.group p (search)))
+    (appends_none s.moment None c.args.out.now.items c.args.out.now.items refl)
 
 pub returns-in-Host : goal.returns-in-Host
 returns-in-Host c =
@@ -21,7 +21,7 @@ returns-in-Host c =
     (λ told s p h alive own.
     let parts = subst (λ (e : SystemEntityState). PartsStand e s) (sym c.self.view_is) h in
     let role = sym (ap (λ (x : SystemConfiguration). x.role) (c.config.ensures ∙ parts.local.configuration)) ∙ sym c.role.ensures ∙ c.in-Host.is in
-    subst (λ (e : Effect). Appends s.moment c.args.out.now.items c.tell.new.out.items e.outputs) (sym (host_responds s c.args.place c.args.group p role (search) alive own))
+    subst (λ (e : Effect). Appends s.moment None c.args.out.now.items c.tell.new.out.items e.outputs) (sym (host_responds s c.args.neighbour c.args.group p role (search) alive own))
     (told s s.moment parts.esis (sym parts.local.configuration ∙ sym c.config-in-Host.ensures)))
     c.tell.ensures.told
 
@@ -29,5 +29,5 @@ pub returns-in-Router : goal.returns-in-Router
 returns-in-Router c = λ s p h alive own.
     let parts = subst (λ (e : SystemEntityState). PartsStand e s) (sym c.self.view_is) h in
     let role = sym (ap (λ (x : SystemConfiguration). x.role) (c.config.ensures ∙ parts.local.configuration)) ∙ sym c.role.ensures ∙ c.in-Router.is in
-    subst (λ (e : Effect). Appends s.moment c.args.out.now.items c.args.out.now.items e.outputs) (sym (router_is_quiet s c.args.place c.args.group p role))
-    (appends_none s.moment c.args.out.now.items c.args.out.now.items refl)
+    subst (λ (e : Effect). Appends s.moment None c.args.out.now.items c.args.out.now.items e.outputs) (sym (router_is_quiet s c.args.neighbour c.args.group p role))
+    (appends_none s.moment None c.args.out.now.items c.args.out.now.items refl)

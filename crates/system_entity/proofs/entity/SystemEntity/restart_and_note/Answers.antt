@@ -1,5 +1,5 @@
 -- It is noted, and both parts are restarted.
-use Rattle.std.proofs.Common.{◌∙◌, refl, sym, subst}
+use Rattle.std.proofs.Common.{◌∙◌, refl, sym, subst, None}
 use Rattle.clnp_machine.specs.ClnpPlan.declared.note.Note.TheVariants.{Restart}
 use Rattle.system_entity.specs.State.{SystemEntityState}
 use Rattle.system_entity.specs.Stands.{Stands}
@@ -9,7 +9,7 @@ use Rattle.system_entity.proofs.entity.SystemEntity.restart_and_note.Goals as go
 pub returns-clause-step : goal.returns-clause-step
 returns-clause-step c = λ role. record {
   stands = λ s h. c.restart.ensures.stands s (subst (λ (e : SystemEntityState). Stands e s) (sym c.in_ok-note.ensures.same) h);
-  outputs = λ s h. appends_note s.moment c.args.out.now.items c.note.new.out.items Restart Restart c.in_ok-note.ensures.noted refl;
+  outputs = λ s h. appends_note s.moment None c.args.out.now.items c.note.new.out.items Restart Restart c.in_ok-note.ensures.noted refl;
   moment = c.restart.ensures.moment ∙ c.in_ok-note.ensures.moment;
   config = c.restart.ensures.config ∙ c.in_ok-note.ensures.config;
 }
