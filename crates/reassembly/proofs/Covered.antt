@@ -1,5 +1,7 @@
 -- Places that segments cover.
-use Rattle.std.proofs.Common.{arith, ◌≡◌, ℕ, ◌+◌, ◌-◌, ◌<◌, ◌≤◌, true, List}
+use Rattle.std.proofs.Common.{arith, ◌≡◌, ℕ, zero, suc, ◌+◌, ◌-◌, ◌<◌, ◌≤◌, Bool, true, false, inl, inr, List}
+use Rattle.std.specs.List.{list_all, range_with_len}
+use Rattle.std.proofs.lemmas.Bool.{cases_Bool}
 use Rattle.reassembly.specs.Arrival.{Arrival, are_covered, is_covered}
 use Rattle.nsap.proofs.ClnpBase.Ranges.{all_by_each, each_of_all}
 
@@ -18,3 +20,15 @@ module _ {C : Type 0} where
       → are_covered xs place (to - place) ≡ true
   covered_rest xs from place to low all =
       covered_by_each xs place (to - place) (λ at least most. each_covered xs from (to - from) at all (omega arith) (omega arith))
+
+-- a place that doesn't pass a test, where not each does
+pub not_each : (test : ℕ → Bool) (from len : ℕ) → list_all test (range_with_len from len) ≡ false
+    → (place : ℕ) × (from ≤ place) × (place < from + len) × (test place ≡ false)
+not_each test from zero e = absurd (cc)
+not_each test from (suc len) e =
+    elim (cases_Bool (test from)) [
+      | inl t ↦
+          let rest = not_each test (from + 1) len (rw t at e) in
+          (rest.0, omega (arith, rest.1), omega (arith, rest.2), rest.3)
+      | inr f ↦ (from, omega arith, omega arith, f)
+    ]

@@ -1,12 +1,14 @@
--- The runs of a table's openings, where an opening or a segment comes.
-use Rattle.std.proofs.Common.{◌≡◌, ◌≢◌, ◌⊎◌, ℕ, zero, suc, ◌+◌, ◌-◌, ◌*◌, ◌<◌, ◌≤◌, ◌==◌, ◌&&◌, not, nat_le, nat_lt, Bool, true, false, cond, List, [], ◌∷◌, ◌++◌, length, map, sum, Option, None, Some, inl, inr, refl, sym, ap, subst, ◌∙◌, arith}
-use Rattle.std.specs.Prelude.{is_none, is_some, slice_get, slice_set}
+-- The runs of a table's openings, where openings and segments come and go.
+use Rattle.std.proofs.Common.{◌≡◌, ◌≢◌, ◌⊎◌, ℕ, zero, suc, ◌+◌, ◌-◌, ◌*◌, ◌<◌, ◌≤◌, ◌==◌, ◌&&◌, not, nat_le, nat_lt, Bool, true, false, cond, List, [], ◌∷◌, ◌++◌, length, map, sum, take, Option, None, Some, inl, inr, refl, sym, ap, subst, ◌∙◌, arith, zero-add}
+use Rattle.std.specs.Prelude.{◌^◌, is_none, is_some, slice_get, slice_set}
 use Rattle.std.specs.List.{AllByRecursion, list_any, remove}
 use Rattle.std.proofs.lemmas.List.Edits.{length-remove}
-use Rattle.std.proofs.lemmas.Bool.{cases_Bool, cases_eq, eq-eqb, ne_eqb}
-use Rattle.std.proofs.lemmas.List.{length-map, length-set, length_push}
-use Rattle.std.proofs.lemmas.Option.{same_Some, slice_get_within, none-some}
-use Rattle.nsap.proofs.ClnpBase.Lists.{AllByRecursion-slice_get, slice_get-push, slice_get-push_other, slice_get-set, slice_get-set_other}
+use Rattle.std.proofs.lemmas.Bool.{and_from, both_ways, cases_Bool, cases_eq, eq-eqb, le-leb, lt-ltb, ne_eqb}
+use Rattle.std.proofs.lemmas.List.{append-nil, length-map, length-set, length_push}
+use Rattle.std.proofs.lemmas.Option.{get_or_from_slice_get, same_Some, slice_get_within, none-some}
+use Rattle.nsap.proofs.ClnpBase.Choices.{no_value}
+use Rattle.nsap.proofs.ClnpBase.Found.{is_first}
+use Rattle.nsap.proofs.ClnpBase.Lists.{AllByRecursion-from_places, AllByRecursion-slice_get, slice_get_some, slice_get-push, slice_get-push_other, slice_get-set, slice_get-set_other}
 use Rattle.reassembly.specs.declared.runs.Run.{Run}
 use Rattle.reassembly.specs.declared.segment.Key.{Key}
 use Rattle.reassembly.specs.declared.segment.Segment.{Segment}
@@ -14,19 +16,21 @@ use Rattle.reassembly.specs.declared.openings.Opening.{Opening}
 use Rattle.reassembly.specs.Arrival.{are_covered, arrival_of, data_len, is_covered, same_key}
 use Rattle.clnp_views.specs.Extent.{Extent}
 use Rattle.reassembly.specs.declared.table.TableLimits.{TableLimits}
-use Rattle.reassembly.specs.Ending.{others_of, places_without}
+use Rattle.reassembly.specs.Entries.{emptied_at, emptied_of, full, places_present, present, without_key}
 use Rattle.reassembly.specs.Sound.{IsSound}
-use Rattle.reassembly.specs.Index.{AreRunsOf, IsIndexOf, MayBeIndexed, giver, lack}
+use Rattle.reassembly.specs.Index.{AreRunsOf, EachGives, HasNew, IsIndexOf, MayBeIndexed, entry_gives, giver, lack}
 use Rattle.reassembly.specs.Offered.{openings_of}
-use Rattle.reassembly.specs.Runs.{AreJoined, filled, filler, has_place, is_gap, named_in, pieces, renamed, total_runs, unfilled}
+use Rattle.reassembly.specs.Runs.{AreInOrder, AreJoined, filled, filler, has_place, is_gap, named_in, pieces, renamed, total_runs, unfilled}
 use Rattle.reassembly.specs.State.{segments_of}
 use Rattle.reassembly.proofs.Counted.{counted_once, ones, weights}
+use Rattle.reassembly.proofs.Covered.{not_each}
 use Rattle.reassembly.proofs.Filling.{or_else, have_from, joined_order, not_behind, filled-filler, filled-joined, filled_tells, length-filled, renamed-filler, renamed-joined}
-use Rattle.reassembly.proofs.Givers.{covered-giver, giver-none, giver-other, giver-others, giver-same, lack-others, lack_first, lack_last}
+use Rattle.reassembly.proofs.Entries.{left_there, present-append, present-emptied, present-full, present_counted, still_there}
+use Rattle.reassembly.proofs.Givers.{came_from, covered-giver, giver-before, giver-closed, giver-emptied, giver-empty, giver-none, giver-other, giver-same, giver-set, giver-still, lack-closed, lack_first, lack_last}
 use Rattle.reassembly.proofs.Ended.{segments_of-others}
 use Rattle.reassembly.proofs.Keeping.{segments_of-other, segments_of-same}
 use Rattle.reassembly.proofs.Keys.{same_key-like, same_key-true}
-use Rattle.reassembly.proofs.Run.{arrivals_of}
+use Rattle.reassembly.proofs.Run.{arrivals_of, does_give}
 use Rattle.reassembly.proofs.Slots.{openings_of-other, openings_of-same}
 use Rattle.reassembly.proofs.Whole.{some_at}
 use Rattle.nsap.proofs.ClnpBase.Sums.{sum-cons}
@@ -122,10 +126,10 @@ pieces_ends to (run ∷ next ∷ others) joined =
     (subst (λ (o : Option ℕ). pieces (run ∷ next ∷ others) + (cond (is_none run.by) 1 0 + cond (is_none o) 1 0) ≤ length (run ∷ next ∷ others)) (sym e)
     (omega (arith, rest, here))))
 
-pub pieces_few : (key : Key) (high count : ℕ) (segments : List Segment) (runs : List Run) → AreJoined 0 high runs → 0 < high
-    → ((place : ℕ) → place < high → filler place runs ≡ giver key place segments)
-    → length runs + 1 ≤ 2 * count + (lack key 0 segments + lack key (high - 1) segments) → 1 ≤ count → pieces runs + 1 ≤ 2 * count
-pieces_few key high count segments runs joined some fills few more =
+pub pieces_few : (key : Key) (high count : ℕ) (entries : List (Option Segment)) (runs : List Run) → AreJoined 0 high runs → 0 < high
+    → ((place : ℕ) → place < high → filler place runs ≡ giver key place entries)
+    → length runs + 1 ≤ 2 * count + (lack key 0 entries + lack key (high - 1) entries) → 1 ≤ count → pieces runs + 1 ≤ 2 * count
+pieces_few key high count entries runs joined some fills few more =
     elim (pieces_ends high runs joined) [
       | inl none ↦ omega (arith, none, more)
       | inr ends ↦
@@ -143,21 +147,22 @@ unfilled-filler place places =
       | inr f ↦ rw f refl
     ]
 
-pub opened_runs : (segments : List Segment) (opening : Opening) → segments_of opening.key segments ≡ [] → 0 < data_len opening.shape
-    → AreRunsOf segments opening (unfilled (data_len opening.shape))
-opened_runs segments opening none some =
-    let lacks = λ (place : ℕ). giver-none opening.key place segments none in
+pub opened_runs : (entries : List (Option Segment)) (opening : Opening) → segments_of opening.key (present entries) ≡ [] → 0 < data_len opening.shape
+    → AreRunsOf entries opening (unfilled (data_len opening.shape))
+opened_runs entries opening none some =
+    let lacks = λ (place : ℕ). giver-none opening.key place entries none in
     record {
       joined = (refl, (some, refl));
       filled = λ place within. unfilled-filler place (data_len opening.shape) ∙ sym (lacks place);
       few = rw (lacks 0, lacks (data_len opening.shape - 1)) (omega arith);
       few_pieces = λ more. absurd (omega (arith, ap length none, more));
+      each = λ index segment at same. absurd (omega (arith, ap length none, present_counted opening.key entries index segment at same));
     }
 
-pub opened_index : (segments : List Segment) (openings : List Opening) (groups : List (List Run)) (opening : Opening)
-    → IsIndexOf segments openings groups → segments_of opening.key segments ≡ [] → 0 < data_len opening.shape
-    → IsIndexOf segments (openings ++ opening ∷ []) (groups ++ unfilled (data_len opening.shape) ∷ [])
-opened_index segments openings groups opening index none some =
+pub opened_index : (entries : List (Option Segment)) (openings : List Opening) (groups : List (List Run)) (opening : Opening)
+    → IsIndexOf entries openings groups → segments_of opening.key (present entries) ≡ [] → 0 < data_len opening.shape
+    → IsIndexOf entries (openings ++ opening ∷ []) (groups ++ unfilled (data_len opening.shape) ∷ [])
+opened_index entries openings groups opening index none some =
     let new = unfilled (data_len opening.shape) in
     record {
       number = length_push groups new ∙ (ap (λ n. n + 1) index.number ∙ sym (length_push openings opening));
@@ -166,71 +171,118 @@ opened_index segments openings groups opening index none some =
             | inl here ↦
                 let told_is = same_Some opening told (sym (slice_get-push openings slot opening here) ∙ at) in
                 let runs_are = same_Some new runs (sym (slice_get-push groups slot new (index.number ∙ here)) ∙ there) in
-                subst (λ (r : List Run). AreRunsOf segments told r) runs_are
-                (subst (λ (o : Opening). AreRunsOf segments o new) told_is (opened_runs segments opening none some))
+                subst (λ (r : List Run). AreRunsOf entries told r) runs_are
+                (subst (λ (o : Opening). AreRunsOf entries o new) told_is (opened_runs entries opening none some))
             | inr other ↦
                 index.each slot told runs (sym (slice_get-push_other openings slot opening other) ∙ at)
                 (sym (slice_get-push_other groups slot new (λ e. other (sym index.number ∙ e))) ∙ there)
           ];
     }
 
--- ---- a segment more
+-- ---- an entry more
 
-module _ (segments : List Segment) (segment : Segment) (opening : Opening) (runs : List Run) (are : AreRunsOf segments opening runs) where
-  other_runs : same_key segment.key opening.key ≡ false → AreRunsOf (segments ++ segment ∷ []) opening runs
-  other_runs other =
-      let same = λ (place : ℕ). giver-other opening.key place segments segment other in
-      let number = ap length (segments_of-other opening.key segments segment other) in
+module _ (entries : List (Option Segment)) (opening : Opening) (runs : List Run) (are : AreRunsOf entries opening runs) where
+  -- what gave before gives still, where the new entry isn't one of the opening
+  each_still : (entry : Option Segment) → ((segment : Segment) → entry ≡ Some segment → same_key segment.key opening.key ≡ true → ⊥)
+      → EachGives (entries ++ entry ∷ []) opening
+  each_still entry never index segment at same =
+      elim (cases_eq (length entries) index) [
+        | inl here ↦ absurd (never segment (same_Some entry (Some segment) (sym (slice_get-push entries index entry here) ∙ at)) same)
+        | inr other ↦
+            let old = are.each index segment (sym (slice_get-push_other entries index entry other) ∙ at) same in
+            (old.0, old.1, giver-still opening.key old.0 entries entry index old.2)
+      ]
+
+  present_none : present (entries ++ None ∷ []) ≡ present entries
+  present_none = present-append entries (None ∷ []) ∙ append-nil (present entries)
+
+  present_some : (segment : Segment) → present (entries ++ Some segment ∷ []) ≡ present entries ++ segment ∷ []
+  present_some segment = present-append entries (Some segment ∷ [])
+
+  empty_runs : AreRunsOf (entries ++ None ∷ []) opening runs
+  empty_runs =
+      let same = λ (place : ℕ). giver-empty opening.key place entries in
+      let number = ap (λ (l : List Segment). length (segments_of opening.key l)) present_none in
       record {
         joined = are.joined;
         filled = λ place within. are.filled place within ∙ sym (same place);
         few = rw (same 0, same (data_len opening.shape - 1), number) are.few;
         few_pieces = rw number are.few_pieces;
+        each = each_still None (λ segment e same_is. none-some segment e);
       }
 
-  more_segments : same_key segment.key opening.key ≡ true
-      → length (segments_of opening.key (segments ++ segment ∷ [])) ≡ length (segments_of opening.key segments) + 1
-  more_segments same =
-      sym (length-map (segments_of opening.key (segments ++ segment ∷ [])) arrival_of)
-      ∙ ap length (segments_of-same opening.key segments segment same)
-      ∙ length_push (map arrival_of (segments_of opening.key segments)) (arrival_of segment)
-      ∙ ap (λ n. n + 1) (length-map (segments_of opening.key segments) arrival_of)
-
-  own_runs : (from to : ℕ) → same_key segment.key opening.key ≡ true → 0 < data_len opening.shape
-      → from ≡ segment.offset → to ≡ segment.offset + (arrival_of segment).len
-      → AreRunsOf (segments ++ segment ∷ []) opening (filled from to (length segments) runs)
-  own_runs from to same some from_is to_is =
-      let high = data_len opening.shape in
-      let joined = filled-joined from to (length segments) 0 high runs are.joined in
-      let fills = λ (place : ℕ) (within : place < high).
-      filled-filler from to (length segments) place 0 high runs are.joined (omega arith) within
-      ∙ ap (λ (o : Option ℕ). or_else o (cond (nat_le from place && nat_lt place to) (Some (length segments)) None)) (are.filled place within)
-      ∙ sym (giver-same opening.key place from to segments segment same from_is to_is) in
-      let number = more_segments same in
-      let few : length (filled from to (length segments) runs) + 1 ≤ 2 * (length (segments_of opening.key segments) + 1)
-      + (lack opening.key 0 (segments ++ segment ∷ []) + lack opening.key (high - 1) (segments ++ segment ∷ [])) =
-      omega (
-        arith,
-        length-filled from to (length segments) high runs are.joined,
-        are.few,
-        lack_first opening.key from to segments segment same from_is to_is,
-        lack_last opening.key from to high segments segment same from_is to_is,
-      ) in
+  other_runs : (segment : Segment) → same_key segment.key opening.key ≡ false → AreRunsOf (entries ++ Some segment ∷ []) opening runs
+  other_runs segment other =
+      let same = λ (place : ℕ). giver-other opening.key place entries segment other in
+      let number = ap (λ (l : List Segment). length (segments_of opening.key l)) (present_some segment)
+      ∙ ap length (segments_of-other opening.key (present entries) segment other) in
       record {
-        joined = joined;
-        filled = fills;
-        few = rw number few;
-        few_pieces = λ more. rw number (pieces_few opening.key high (length (segments_of opening.key segments) + 1) (segments ++ segment ∷ [])
-            (filled from to (length segments) runs) joined some fills few (omega arith));
+        joined = are.joined;
+        filled = λ place within. are.filled place within ∙ sym (same place);
+        few = rw (same 0, same (data_len opening.shape - 1), number) are.few;
+        few_pieces = rw number are.few_pieces;
+        each = each_still (Some segment) (λ told e mine. both_ways (same_key segment.key opening.key) other
+            (ap (λ (s : Segment). same_key s.key opening.key) (same_Some segment told e) ∙ mine));
       }
 
-pub kept_index : (segments : List Segment) (openings : List Opening) (groups : List (List Run)) (segment : Segment) (slot : ℕ) (opening : Opening) (runs : List Run) (from to : ℕ)
-    → IsIndexOf segments openings groups → AllByRecursion (λ o. openings_of o.key openings ≡ 1) openings
+  module _ (segment : Segment) (from to : ℕ) (same : same_key segment.key opening.key ≡ true)
+      (from_is : from ≡ segment.offset) (to_is : to ≡ segment.offset + (arrival_of segment).len) where
+    more_segments : length (segments_of opening.key (present (entries ++ Some segment ∷ []))) ≡ length (segments_of opening.key (present entries)) + 1
+    more_segments =
+        ap (λ (l : List Segment). length (segments_of opening.key l)) (present_some segment)
+        ∙ sym (length-map (segments_of opening.key (present entries ++ segment ∷ [])) arrival_of)
+        ∙ ap length (segments_of-same opening.key (present entries) segment same)
+        ∙ length_push (map arrival_of (segments_of opening.key (present entries))) (arrival_of segment)
+        ∙ ap (λ n. n + 1) (length-map (segments_of opening.key (present entries)) arrival_of)
+
+    -- the new segment is the earliest at the place of its new octet
+    own_each : HasNew entries segment opening → EachGives (entries ++ Some segment ∷ []) opening
+    own_each new index told at mine =
+        elim (cases_eq (length entries) index) [
+          | inl here ↦
+              let inside : (nat_le from new.0 && nat_lt new.0 to) ≡ true =
+              and_from (nat_le from new.0) (nat_lt new.0 to) (le-leb from new.0 (omega (arith, from_is, new.3))) (lt-ltb new.0 to (omega (arith, to_is, new.4))) in
+              (new.0, new.1, giver-same opening.key new.0 entries from to segment same from_is to_is ∙ (rw (new.2, inside) (ap (λ (n : ℕ). Some n) here)))
+          | inr other ↦
+              let old = are.each index told (sym (slice_get-push_other entries index (Some segment) other) ∙ at) mine in
+              (old.0, old.1, giver-still opening.key old.0 entries (Some segment) index old.2)
+        ]
+
+    own_runs : 0 < data_len opening.shape → HasNew entries segment opening
+        → AreRunsOf (entries ++ Some segment ∷ []) opening (filled from to (length entries) runs)
+    own_runs some new =
+        let high = data_len opening.shape in
+        let joined = filled-joined from to (length entries) 0 high runs are.joined in
+        let fills = λ (place : ℕ) (within : place < high).
+        filled-filler from to (length entries) place 0 high runs are.joined (omega arith) within
+        ∙ ap (λ (o : Option ℕ). or_else o (cond (nat_le from place && nat_lt place to) (Some (length entries)) None)) (are.filled place within)
+        ∙ sym (giver-same opening.key place entries from to segment same from_is to_is) in
+        let number = more_segments in
+        let few : length (filled from to (length entries) runs) + 1 ≤ 2 * (length (segments_of opening.key (present entries)) + 1)
+        + (lack opening.key 0 (entries ++ Some segment ∷ []) + lack opening.key (high - 1) (entries ++ Some segment ∷ [])) =
+        omega (
+          arith,
+          length-filled from to (length entries) high runs are.joined,
+          are.few,
+          lack_first opening.key from to entries segment same from_is to_is,
+          lack_last opening.key from to high entries segment same from_is to_is,
+        ) in
+        record {
+          joined = joined;
+          filled = fills;
+          few = rw number few;
+          few_pieces = λ more. rw number (pieces_few opening.key high (length (segments_of opening.key (present entries)) + 1) (entries ++ Some segment ∷ [])
+              (filled from to (length entries) runs) joined some fills few (omega arith));
+          each = own_each new;
+        }
+
+pub kept_index : (entries : List (Option Segment)) (openings : List Opening) (groups : List (List Run)) (segment : Segment) (slot : ℕ) (opening : Opening) (runs : List Run) (from to : ℕ)
+    → IsIndexOf entries openings groups → AllByRecursion (λ o. openings_of o.key openings ≡ 1) openings
     → slice_get openings slot ≡ Some opening → slice_get groups slot ≡ Some runs → opening.key ≡ segment.key → 0 < data_len opening.shape
-    → from ≡ segment.offset → to ≡ segment.offset + (arrival_of segment).len
-    → IsIndexOf (segments ++ segment ∷ []) openings (slice_set groups slot (filled from to (length segments) runs))
-kept_index segments openings groups segment slot opening runs from to index distinct at there key_is some from_is to_is =
-    let new = filled from to (length segments) runs in
+    → from ≡ segment.offset → to ≡ segment.offset + (arrival_of segment).len → HasNew entries segment opening
+    → IsIndexOf (entries ++ Some segment ∷ []) openings (slice_set groups slot (filled from to (length entries) runs))
+kept_index entries openings groups segment slot opening runs from to index distinct at there key_is some from_is to_is gives =
+    let new = filled from to (length entries) runs in
     let within = slice_get_within groups slot runs there in
     record {
       number = length-set groups slot new ∙ index.number;
@@ -239,16 +291,44 @@ kept_index segments openings groups segment slot opening runs from to index dist
             | inl here ↦
                 let told_is = same_Some opening told (sym at ∙ ap (slice_get openings) here ∙ told_at) in
                 let runs_are = same_Some new told_runs (sym (slice_get-set groups slot new within) ∙ ap (slice_get (slice_set groups slot new)) here ∙ told_there) in
-                subst (λ (r : List Run). AreRunsOf (segments ++ segment ∷ []) told r) runs_are
-                (subst (λ (o : Opening). AreRunsOf (segments ++ segment ∷ []) o new) told_is
-                (own_runs segments segment opening runs (index.each slot opening runs at there) from to
-                (same_key-like segment.key opening.key (sym key_is)) some from_is to_is))
+                subst (λ (r : List Run). AreRunsOf (entries ++ Some segment ∷ []) told r) runs_are
+                (subst (λ (o : Opening). AreRunsOf (entries ++ Some segment ∷ []) o new) told_is
+                (own_runs entries opening runs (index.each slot opening runs at there) segment from to
+                (same_key-like segment.key opening.key (sym key_is)) from_is to_is some gives))
             | inr other ↦
                 let apart = other_keys openings slot i opening told distinct at told_at other in
-                other_runs segments segment told told_runs
+                other_runs entries told told_runs
                 (index.each i told told_runs told_at (sym (slice_get-set_other groups slot i new other) ∙ told_there))
-                (subst (λ (k : Key). same_key k told.key ≡ false) key_is apart)
+                segment (subst (λ (k : Key). same_key k told.key ≡ false) key_is apart)
           ];
+    }
+
+-- the same, where the code tells what the runs are
+pub index_kept : (entries : List (Option Segment)) (openings : List Opening) (groups after : List (List Run)) (segment : Segment) (slot : ℕ) (opening : Opening) (from to by : ℕ)
+    → IsIndexOf entries openings groups → AllByRecursion (λ o. openings_of o.key openings ≡ 1) openings
+    → AllByRecursion (λ o. o.shape.head_len < o.shape.total) openings → slice_get openings slot ≡ Some opening → opening.key ≡ segment.key
+    → from ≡ segment.offset → to ≡ segment.offset + (arrival_of segment).len → by ≡ length entries → HasNew entries segment opening
+    → ((runs : List Run) → slice_get groups slot ≡ Some runs → after ≡ slice_set groups slot (filled from to by runs))
+    → IsIndexOf (entries ++ Some segment ∷ []) openings after
+index_kept entries openings groups after segment slot opening from to by index distinct shaped at key_is from_is to_is by_is new fills =
+    let group = slice_get_some groups slot (omega (arith, slice_get_within openings slot opening at, index.number)) in
+    let has_data = AllByRecursion-slice_get (λ o. o.shape.head_len < o.shape.total) openings slot opening at shaped in
+    let kept = kept_index entries openings groups segment slot opening group.0 from to index distinct at group.1 key_is (omega (arith, has_data)) from_is to_is new in
+    subst (λ (l : List (List Run)). IsIndexOf (entries ++ Some segment ∷ []) openings l)
+    (sym (fills group.0 group.1 ∙ ap (λ (n : ℕ). slice_set groups slot (filled from to n group.0)) by_is)) kept
+
+pub index_order : (entries : List (Option Segment)) (openings : List Opening) (groups : List (List Run)) → IsIndexOf entries openings groups
+    → (slot : ℕ) (runs : List Run) → slice_get groups slot ≡ Some runs → AreInOrder runs
+index_order entries openings groups index slot runs told =
+    let opening = slice_get_some openings slot (omega (arith, slice_get_within groups slot runs told, index.number)) in
+    (0, data_len opening.0.shape, (index.each slot opening.0 runs opening.1 told).joined)
+
+pub empty_index : (entries : List (Option Segment)) (openings : List Opening) (groups : List (List Run)) → IsIndexOf entries openings groups
+    → IsIndexOf (entries ++ None ∷ []) openings groups
+empty_index entries openings groups index =
+    record {
+      number = index.number;
+      each = λ slot opening runs at there. empty_runs entries opening runs (index.each slot opening runs at there);
     }
 
 -- ---- how many runs there are
@@ -257,32 +337,45 @@ lack_one : (by : Option ℕ) → cond (is_none by) 1 0 ≤ 1
 lack_one None = omega arith
 lack_one (Some x) = omega arith
 
-total_each : (segments : List Segment) (openings : List Opening) (groups : List (List Run)) → length groups ≡ length openings
-    → ((slot : ℕ) (opening : Opening) (runs : List Run) → slice_get openings slot ≡ Some opening → slice_get groups slot ≡ Some runs → AreRunsOf segments opening runs)
-    → total_runs groups ≤ 2 * sum (weights (λ (s : Segment). 1) segments openings) + length openings
-total_each segments [] [] number each = omega arith
-total_each segments [] (runs ∷ groups) number each = absurd (omega (arith, number))
-total_each segments (opening ∷ openings) [] number each = absurd (omega (arith, number))
-total_each segments (opening ∷ openings) (runs ∷ groups) number each =
-    let rest = total_each segments openings groups (omega (arith, number)) (λ slot. each (suc slot)) in
+total_each : (entries : List (Option Segment)) (openings : List Opening) (groups : List (List Run)) → length groups ≡ length openings
+    → ((slot : ℕ) (opening : Opening) (runs : List Run) → slice_get openings slot ≡ Some opening → slice_get groups slot ≡ Some runs → AreRunsOf entries opening runs)
+    → total_runs groups ≤ 2 * sum (weights (λ (s : Segment). 1) (present entries) openings) + length openings
+total_each entries [] [] number each = omega arith
+total_each entries [] (runs ∷ groups) number each = absurd (omega (arith, number))
+total_each entries (opening ∷ openings) [] number each = absurd (omega (arith, number))
+total_each entries (opening ∷ openings) (runs ∷ groups) number each =
+    let segments = present entries in
+    let rest = total_each entries openings groups (omega (arith, number)) (λ slot. each (suc slot)) in
     let here = each 0 opening runs refl refl in
     let a = sum-cons (length runs) (map (λ r. length r) groups) in
     let b = sum-cons (sum (map (λ (s : Segment). 1) (segments_of opening.key segments))) (weights (λ (s : Segment). 1) segments openings) in
-    omega (arith, rest, here.few, a, b, ones (segments_of opening.key segments), lack_one (giver opening.key 0 segments), lack_one (giver opening.key (data_len opening.shape - 1) segments))
+    omega (arith, rest, here.few, a, b, ones (segments_of opening.key segments), lack_one (giver opening.key 0 entries), lack_one (giver opening.key (data_len opening.shape - 1) entries))
 
-pub total_few : (segments : List Segment) (openings : List Opening) (groups : List (List Run)) → IsIndexOf segments openings groups
-    → AllByRecursion (λ s. openings_of s.key openings ≡ 1) segments → total_runs groups ≤ 2 * length segments + length openings
-total_few segments openings groups index owned =
-    omega (arith, total_each segments openings groups index.number index.each, counted_once (λ (s : Segment). 1) openings segments owned, ones segments)
+pub total_few : (entries : List (Option Segment)) (openings : List Opening) (groups : List (List Run)) → IsIndexOf entries openings groups
+    → AllByRecursion (λ s. openings_of s.key openings ≡ 1) (present entries) → total_runs groups ≤ 2 * length (present entries) + length openings
+total_few entries openings groups index owned =
+    omega (arith, total_each entries openings groups index.number index.each, counted_once (λ (s : Segment). 1) openings (present entries) owned, ones (present entries))
 
 -- ---- places that are covered
 
-pub gap_tells_cover : (segments : List Segment) (opening : Opening) (runs : List Run) (from len to : ℕ) → AreRunsOf segments opening runs
+pub gap_tells_cover : (entries : List (Option Segment)) (opening : Opening) (runs : List Run) (from len to : ℕ) → AreRunsOf entries opening runs
     → from + len ≡ to → to ≤ data_len opening.shape
-    → not (list_any (is_gap from to) runs) ≡ are_covered (arrivals_of opening.key segments) from len
-gap_tells_cover segments opening runs from len to are counted within =
-    filled_tells (is_covered (arrivals_of opening.key segments)) from len to (data_len opening.shape) runs are.joined counted within
-    (λ place inside. covered-giver opening.key place segments ∙ ap is_some (sym (are.filled place inside)))
+    → not (list_any (is_gap from to) runs) ≡ are_covered (arrivals_of opening.key (present entries)) from len
+gap_tells_cover entries opening runs from len to are counted within =
+    filled_tells (is_covered (arrivals_of opening.key (present entries))) from len to (data_len opening.shape) runs are.joined counted within
+    (λ place inside. covered-giver opening.key place entries ∙ ap is_some (sym (are.filled place inside)))
+
+-- a place of a segment that isn't covered, of which each place is in the unit
+pub new_place : (entries : List (Option Segment)) (segment : Segment) (opening : Opening) → opening.key ≡ segment.key
+    → segment.offset + (arrival_of segment).len ≤ data_len opening.shape
+    → are_covered (arrivals_of segment.key (present entries)) segment.offset (arrival_of segment).len ≡ false → HasNew entries segment opening
+new_place entries segment opening key_is within uncovered =
+    let len = (arrival_of segment).len in
+    let found = not_each (is_covered (arrivals_of segment.key (present entries))) segment.offset len uncovered in
+    let none : giver opening.key found.0 entries ≡ None =
+    no_value (giver opening.key found.0 entries) (sym (covered-giver opening.key found.0 entries)
+    ∙ ap (λ (k : Key). is_covered (arrivals_of k (present entries)) found.0) key_is ∙ found.3) in
+    (found.0, omega (arith, found.2, within), none, found.1, found.2)
 
 -- ---- an opening and its segments are taken out
 
@@ -304,55 +397,136 @@ module _ {X Y : Type 0} where
   map_at f (x ∷ xs) zero y e = (x, refl, same_Some (f x) y e)
   map_at f (x ∷ xs) (suc i) y e = map_at f xs i y e
 
-left_runs : (segments : List Segment) (key : Key) (opening : Opening) (runs : List Run) → same_key opening.key key ≡ false → 0 < data_len opening.shape
-    → AreRunsOf segments opening runs → AreRunsOf (others_of key segments) opening (map (renamed (places_without key 0 segments)) runs)
-left_runs segments key opening runs other some are =
-    let names = places_without key 0 segments in
+left_runs : (entries : List (Option Segment)) (key : Key) (opening : Opening) (runs : List Run) → same_key opening.key key ≡ false
+    → AreRunsOf entries opening runs → AreRunsOf (emptied_of key entries) opening runs
+left_runs entries key opening runs other are =
+    let high = data_len opening.shape in
+    let same = λ (place : ℕ). giver-emptied opening.key key place entries other in
+    let number = ap (λ (l : List Segment). length (segments_of opening.key l)) (present-emptied key entries)
+    ∙ ap length (segments_of-others opening.key key other (present entries)) in
+    record {
+      joined = are.joined;
+      filled = λ place within. are.filled place within ∙ sym (same place);
+      few = rw (same 0, same (high - 1), number) are.few;
+      few_pieces = rw number are.few_pieces;
+      each = λ index segment at mine.
+          let before = map_at (without_key key) entries index (Some segment) at in
+          let still = still_there key before.0 segment before.2 in
+          let old = are.each index segment (before.1 ∙ ap (λ (o : Option Segment). Some o) still.0) mine in
+          (old.0, old.1, same old.0 ∙ old.2);
+    }
+
+pub left_index : (entries : List (Option Segment)) (openings : List Opening) (groups : List (List Run)) (slot : ℕ) (closed : Opening)
+    → IsIndexOf entries openings groups → AllByRecursion (λ o. openings_of o.key openings ≡ 1) openings → slice_get openings slot ≡ Some closed
+    → IsIndexOf (emptied_of closed.key entries) (remove openings slot) (remove groups slot)
+left_index entries openings groups slot closed index distinct at =
+    let within = slice_get_within openings slot closed at in
+    record {
+      number = omega (arith, length-remove openings slot within, length-remove groups slot (omega (arith, within, index.number)), index.number);
+      each = λ i told runs told_at told_there.
+          let both = remove_at openings groups slot i told runs told_at told_there in
+          left_runs entries closed.key told runs (other_keys openings both.0 slot told closed distinct both.1 at both.3)
+          (index.each both.0 told runs both.1 both.2);
+    }
+
+-- ---- the empty entries are closed up
+
+closed_runs : (entries : List (Option Segment)) (opening : Opening) (runs : List Run) → 0 < data_len opening.shape
+    → AreRunsOf entries opening runs → AreRunsOf (full (present entries)) opening (map (renamed (places_present 0 entries)) runs)
+closed_runs entries opening runs some are =
+    let names = places_present 0 entries in
     let high = data_len opening.shape in
     let after = map (renamed names) runs in
     let joined = renamed-joined names 0 high runs are.joined in
     let fills = λ (place : ℕ) (within : place < high).
-    renamed-filler names place runs ∙ ap (named_in names) (are.filled place within) ∙ sym (giver-others opening.key key place segments other) in
-    let number = ap length (segments_of-others opening.key key other segments) in
-    let few : length after + 1 ≤ 2 * length (segments_of opening.key (others_of key segments)) + (lack opening.key 0 (others_of key segments) + lack opening.key (high - 1) (others_of key segments)) =
-    omega (arith, number, length-map runs (renamed names), are.few, lack-others opening.key key 0 segments other, lack-others opening.key key (high - 1) segments other) in
+    renamed-filler names place runs ∙ ap (named_in names) (are.filled place within) ∙ sym (giver-closed opening.key place entries) in
+    let number = ap (λ (l : List Segment). length (segments_of opening.key l)) (present-full (present entries)) in
+    let few : length after + 1 ≤ 2 * length (segments_of opening.key (present (full (present entries))))
+    + (lack opening.key 0 (full (present entries)) + lack opening.key (high - 1) (full (present entries))) =
+    omega (arith, number, length-map runs (renamed names), are.few, lack-closed opening.key 0 entries, lack-closed opening.key (high - 1) entries) in
     record {
       joined = joined;
       filled = fills;
       few = few;
-      few_pieces = λ more. pieces_few opening.key high (length (segments_of opening.key (others_of key segments))) (others_of key segments) after joined some fills few more;
+      few_pieces = λ more. pieces_few opening.key high (length (segments_of opening.key (present (full (present entries))))) (full (present entries)) after joined some fills few more;
+      each = λ index segment at mine.
+          let from = came_from 0 entries index segment at in
+          let old = are.each from.0 segment from.1 mine in
+          let named : slice_get names from.0 ≡ Some index = from.2 ∙ ap (λ (n : ℕ). Some n) (zero-add index) in
+          (old.0, old.1, giver-closed opening.key old.0 entries ∙ ap (named_in names) old.2 ∙ named);
     }
 
-pub left_index : (segments : List Segment) (openings : List Opening) (groups : List (List Run)) (slot : ℕ) (closed : Opening)
-    → IsIndexOf segments openings groups → AllByRecursion (λ o. openings_of o.key openings ≡ 1) openings
-    → AllByRecursion (λ o. o.shape.head_len < o.shape.total) openings → slice_get openings slot ≡ Some closed
-    → IsIndexOf (others_of closed.key segments) (remove openings slot) (map (map (renamed (places_without closed.key 0 segments))) (remove groups slot))
-left_index segments openings groups slot closed index distinct shaped at =
-    let f = map (renamed (places_without closed.key 0 segments)) in
-    let within = slice_get_within openings slot closed at in
+pub closed_index : (entries : List (Option Segment)) (openings : List Opening) (groups : List (List Run))
+    → AllByRecursion (λ o. o.shape.head_len < o.shape.total) openings → IsIndexOf entries openings groups
+    → IsIndexOf (full (present entries)) openings (map (map (renamed (places_present 0 entries))) groups)
+closed_index entries openings groups shaped index =
+    let f = map (renamed (places_present 0 entries)) in
     record {
-      number = omega (arith, length-map (remove groups slot) f, length-remove openings slot within, length-remove groups slot (omega (arith, within, index.number)), index.number);
-      each = λ i told runs told_at told_there.
-          let before = map_at f (remove groups slot) i runs told_there in
-          let both = remove_at openings groups slot i told before.0 told_at before.1 in
-          let some = AllByRecursion-slice_get (λ o. o.shape.head_len < o.shape.total) openings both.0 told both.1 shaped in
-          subst (λ (r : List Run). AreRunsOf (others_of closed.key segments) told r) before.2
-          (left_runs segments closed.key told before.0 (other_keys openings both.0 slot told closed distinct both.1 at both.3) (omega (arith, some))
-          (index.each both.0 told before.0 both.1 both.2));
+      number = length-map groups f ∙ index.number;
+      each = λ slot opening runs at there.
+          let before = map_at f groups slot runs there in
+          let some = AllByRecursion-slice_get (λ o. o.shape.head_len < o.shape.total) openings slot opening at shaped in
+          subst (λ (r : List Run). AreRunsOf (full (present entries)) opening r) before.2
+          (closed_runs entries opening before.0 (omega (arith, some)) (index.each slot opening before.0 at before.1));
     }
+
+-- ---- one segment is taken out
+
+each_without : (entries : List (Option Segment)) (opening : Opening) (by : Option ℕ) → EachGives entries opening → EachGives (emptied_at by entries) opening
+each_without entries opening None each = each
+each_without entries opening (Some taken) each = λ index segment at mine.
+    let left = left_there entries taken index segment at in
+    let old = each index segment left.1 mine in
+    (old.0, old.1, giver-set opening.key old.0 index taken entries old.2 left.0)
+
+-- each segment of each opening
+all_give : (entries : List (Option Segment)) (openings : List Opening) (groups : List (List Run)) (by : Option ℕ) → IsIndexOf entries openings groups
+    → AllByRecursion (EachGives (emptied_at by entries)) openings
+all_give entries openings groups by index =
+    AllByRecursion-from_places (EachGives (emptied_at by entries)) openings
+    (λ slot opening at.
+    let group = slice_get_some groups slot (omega (arith, slice_get_within openings slot opening at, index.number)) in
+    each_without entries opening by (index.each slot opening group.0 at group.1).each)
+
+all_removed : {X : Type 0} (P : X → Type 0) (xs : List X) (i : ℕ) → AllByRecursion P xs → AllByRecursion P (remove xs i)
+all_removed P [] zero h = tt
+all_removed P [] (suc i) h = tt
+all_removed P (x ∷ xs) zero h = h.1
+all_removed P (x ∷ xs) (suc i) h = (h.0, all_removed P xs i h.1)
 
 -- ---- what holds of a sound table
 
-pub indexable : (limits : TableLimits) (openings : List Opening) (segments : List Segment) (held : ℕ) → IsSound limits openings segments held → MayBeIndexed openings segments
-indexable limits openings segments held sound = record {
+pub indexable : (limits : TableLimits) (openings : List Opening) (entries : List (Option Segment)) (held : ℕ) → IsSound limits openings (present entries) held
+    → length entries < 2 ^ 16 → AllByRecursion (EachGives entries) openings → MayBeIndexed openings entries
+indexable limits openings entries held sound fit each = record {
   distinct = sound.distinct;
   shaped = sound.shaped;
   owned = sound.owned;
   came = sound.came;
-  segments_fit = omega (arith, sound.few_segments, sound.segments_fit);
+  entries_fit = fit;
+  each = each;
 }
 
 -- whether an empty part is covered
 pub empty_cover : (from len to : ℕ) → from + len ≡ to → (from == to) ≡ are_covered {C = Extent} [] from len
 empty_cover from zero to counted = eq-eqb from to (omega arith)
 empty_cover from (suc len) to counted = ne_eqb from to (λ e. omega arith)
+
+-- a segment that comes next has an octet that none before it has, where each is the earliest at some place
+pub next_new : (entries : List (Option Segment)) (index : ℕ) (segment : Segment) (opening : Opening) → slice_get entries index ≡ Some (Some segment)
+    → EachGives entries opening → opening.key ≡ segment.key → HasNew (take index entries) segment opening
+next_new entries index segment opening at each key_is =
+    let old = each index segment at (same_key-like segment.key opening.key (sym key_is)) in
+    let read = sym (get_or_from_slice_get entries index (Some segment) (Some segment) at) in
+    let given = does_give opening.key old.0 segment ((is_first (entry_gives opening.key old.0) index entries old.2).passes (Some segment) read) in
+    (old.0, old.1, giver-before opening.key old.0 entries index old.2, given.from, given.to)
+
+pub undone_give : (entries after : List (Option Segment)) (openings left : List Opening) (groups : List (List Run)) (by : Option ℕ) (slot : ℕ)
+    → IsIndexOf entries openings groups → after ≡ emptied_at by entries → (left ≡ remove openings slot) ⊎ (left ≡ openings)
+    → AllByRecursion (EachGives after) left
+undone_give entries after openings left groups by slot index after_is cases =
+    let all = subst (λ (l : List (Option Segment)). AllByRecursion (EachGives l) openings) (sym after_is) (all_give entries openings groups by index) in
+    elim cases [
+      | inl removed ↦ subst (AllByRecursion (EachGives after)) (sym removed) (all_removed (EachGives after) openings slot all)
+      | inr same ↦ subst (AllByRecursion (EachGives after)) (sym same) all
+    ]

@@ -4,7 +4,9 @@ pub mod Counted
 pub mod Covered
 pub mod Due
 pub mod Ended
+pub mod Emptying
 pub mod Endings
+pub mod Entries
 pub mod Expiring
 pub mod Filling
 pub mod Searching

@@ -1,9 +1,9 @@
 -- Runs that stand in order, where those with a place are found by a binary search.
-use Rattle.std.proofs.Common.{◌≡◌, ℕ, zero, suc, ◌+◌, ◌-◌, ◌<◌, ◌≤◌, ◌&&◌, ◌||◌, max, min, nat_le, nat_lt, Bool, true, false, cond, List, [], ◌∷◌, ◌++◌, Option, None, Some, length, map, take, drop, get_or, refl, sym, ap, subst, ◌∙◌, arith}
+use Rattle.std.proofs.Common.{◌≡◌, ℕ, zero, suc, ◌+◌, ◌-◌, ◌<◌, ◌≤◌, ◌&&◌, ◌||◌, max, min, nat_le, nat_lt, Bool, true, false, cond, List, [], ◌∷◌, ◌++◌, Option, None, Some, length, map, take, drop, get_or, inl, inr, refl, sym, ap, subst, ◌∙◌, arith}
 use Rattle.std.specs.Prelude.{is_none, is_some, slice_get}
 use Rattle.std.specs.List.{AllByRecursion, list_any, position_from}
 use Rattle.std.specs.List.Sorted.{IsNonDecreasingBy}
-use Rattle.std.proofs.lemmas.Bool.{and_from, and_left, and_right, cond-false, cond-true, le-ltb, lt-leb, lt-ltb, ltb-false}
+use Rattle.std.proofs.lemmas.Bool.{and_from, and_left, and_parts, and_right, cond-false, cond-true, le-ltb, lt-leb, lt-ltb, ltb-false, ltb-true, or_cases, or_left, or_right}
 use Rattle.std.proofs.lemmas.Option.{slice_get-get_or}
 use Rattle.std.proofs.lemmas.List.{drop-drop, length-take, take-take}
 use Rattle.nsap.proofs.ClnpBase.Found.{position_none}
@@ -239,3 +239,16 @@ module _ (place : ℕ) (runs : List Run) (at : ℕ) (order : AreInOrder runs) (e
         is_none_not : (by : Option ℕ) → is_some by ≡ true → is_none by ≡ false
         is_none_not None t = absurd (cc)
         is_none_not (Some by) t = refl
+
+-- a hole with a place between two is one with a place of the unit
+pub gap_within : (from to places : ℕ) (runs : List Run) → to ≤ places → list_any (is_gap from to) runs ≡ true → list_any (is_gap 0 places) runs ≡ true
+gap_within from to places [] within e = e
+gap_within from to places (run ∷ others) within e =
+    elim (or_cases (is_gap from to run) (list_any (is_gap from to) others) e) [
+      | inl here ↦
+          let parts = and_parts (is_hole run) (nat_lt (max run.from from) (min run.to to)) here in
+          let l = ltb-true (max run.from from) (min run.to to) parts.1 in
+          or_left (is_gap 0 places run) (list_any (is_gap 0 places) others)
+          (and_from (is_hole run) (nat_lt (max run.from 0) (min run.to places)) parts.0 (lt-ltb (max run.from 0) (min run.to places) (omega (arith, l, within))))
+      | inr rest ↦ or_right (is_gap 0 places run) (list_any (is_gap 0 places) others) (gap_within from to places others within rest)
+    ]

@@ -1,5 +1,5 @@
 -- What is left of the kept segments when some of one key are taken out.
-use Rattle.std.specs.Prelude.{◌==◌, ◌+◌, ◌&&◌, ℕ, not, Bool, true, false, if◌then◌else◌, List, [], ◌∷◌, filter, Option, option_map}
+use Rattle.std.specs.Prelude.{◌==◌, ◌&&◌, not, Bool, true, false, if◌then◌else◌, List, [], ◌∷◌, filter, Option, option_map}
 use Rattle.std.specs.List.{find}
 use Rattle.clnp_views.specs.Extent.{Extent}
 use Rattle.reassembly.specs.declared.segment.Key.{Key}
@@ -28,9 +28,3 @@ is_start_of key segment = same_key segment.key key && (segment.offset == 0)
 -- the PDU of the earliest segment of a key that begins its unit
 abbrev pub first_pdu : Key → List Segment → Option Extent
 first_pdu key segments = option_map (λ segment. segment.pdu) (find (is_start_of key) segments)
-
--- where each segment stands once those of a key are taken out, counted from a number
-abbrev pub places_without : Key → ℕ → List Segment → List ℕ
-places_without key next [] = []
-places_without key next (segment ∷ others) =
-    next ∷ places_without key (if same_key segment.key key then next else next + 1) others

@@ -2,6 +2,7 @@ pub mod Arrival
 pub mod Buffer
 pub mod Claims
 pub mod Ending
+pub mod Entries
 pub mod Index
 pub mod Kept
 pub mod Mapped

@@ -77,3 +77,8 @@ named_in names (Some by) = slice_get names by
 
 abbrev pub renamed : List ℕ → Run → Run
 renamed names run = record run { by = named_in names run.by }
+
+-- the index of the segment that fills the first place, where one does
+abbrev pub first_by : List Run → Option ℕ
+first_by [] = None
+first_by (run ∷ others) = run.by

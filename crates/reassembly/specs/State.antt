@@ -53,7 +53,7 @@ pub record Names (table : TableState) (slot : ℕ) (key : Key) : Type 0 where
 abbrev pub SlotsStay : TableState → TableState → Type 0
 SlotsStay before after =
     (slot : ℕ) (key : Key) (buffers : List (Buffer Extent)) (buffer : Buffer Extent) → Names before slot key
-        → Stands after buffers
+    → Stands after buffers
     → buffer_of key buffers ≡ Some buffer → Names after slot key
 
 -- a slot of the table is that of a buffer which is whole

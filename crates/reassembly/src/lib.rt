@@ -7,6 +7,7 @@ mod openings;
 mod pieces;
 mod runs;
 mod segment;
+mod segments;
 mod table;
 
 pub use pieces::Pieces;

@@ -4,6 +4,7 @@ ghost use Rattle.std.specs.Iterator.{item_count};
 ghost use Rattle.std.specs.List.{AllByRecursion, range_with_len};
 ghost use Rattle.reassembly.specs.Arrival.{are_covered, arrival_of, earliest, octet_in};
 ghost use Rattle.reassembly.specs.Buffer.{octet_by};
+ghost use Rattle.reassembly.specs.Entries.{present};
 ghost use Rattle.reassembly.specs.Index.{giver};
 ghost use Rattle.reassembly.specs.Offered.{MayCome};
 ghost use Rattle.reassembly.specs.Runs.{AreJoined, filler};
@@ -18,7 +19,7 @@ use std::marker::Model;
 /// A contract sees it as the list of the octets that are left.
 #[derive(Drop)]
 pub struct Pieces<'a> {
-    segments: &'a [Segment],
+    entries: &'a [Option<Segment>],
     runs: &'a [Run],
     key: Key,
     place: usize,
@@ -30,6 +31,7 @@ impl<'a> Model for Pieces<'a> {
     ghost use Rattle.std.specs.List.{AllByRecursion, range_with_len};
     ghost use Rattle.reassembly.specs.Arrival.{are_covered, arrival_of, earliest, octet_in};
     ghost use Rattle.reassembly.specs.Buffer.{octet_by};
+    ghost use Rattle.reassembly.specs.Entries.{present};
     ghost use Rattle.reassembly.specs.Index.{giver};
     ghost use Rattle.reassembly.specs.Offered.{MayCome};
     ghost use Rattle.reassembly.specs.Runs.{AreJoined, filler};
@@ -37,26 +39,31 @@ impl<'a> Model for Pieces<'a> {
 
     ghost Value = { List ℕ };
 
-    ghost view = { λ p. map (λ place. octet_by octet_in place (earliest (map arrival_of (segments_of p.key p.segments.now)) place))
+    ghost view = { λ p. map (λ place. octet_by octet_in place (earliest (map arrival_of (segments_of p.key (present p.entries.now))) place))
         (range_with_len p.place (p.end - p.place)) };
 
-    ghost invariant = { λ p. (p.place ≤ p.end) × AllByRecursion MayCome p.segments.now
-        × (are_covered (map arrival_of (segments_of p.key p.segments.now)) p.place (p.end - p.place) ≡ true)
+    ghost invariant = { λ p. (p.place ≤ p.end) × AllByRecursion MayCome (present p.entries.now)
+        × (are_covered (map arrival_of (segments_of p.key (present p.entries.now))) p.place (p.end - p.place) ≡ true)
         × AreJoined p.place p.end p.runs.now
-        × ((at : ℕ) → p.place ≤ at → at < p.end → filler at p.runs.now ≡ giver p.key at p.segments.now) };
+        × ((at : ℕ) → p.place ≤ at → at < p.end → filler at p.runs.now ≡ giver p.key at p.entries.now) };
 }
 
 impl<'a> Pieces<'a> {
     /// The data of the unit whose segments are those of the key, which cover `end` places, by its runs.
-    pub(crate) fn new(segments: &'a [Segment], runs: &'a [Run], key: Key, end: usize) -> Pieces<'a>
-        requires came { AllByRecursion MayCome segments.now }
-        requires covered { are_covered (map arrival_of (segments_of key segments.now)) 0 end ≡ true }
+    pub(crate) fn new(
+        entries: &'a [Option<Segment>],
+        runs: &'a [Run],
+        key: Key,
+        end: usize,
+    ) -> Pieces<'a>
+        requires came { AllByRecursion MayCome (present entries.now) }
+        requires covered { are_covered (map arrival_of (segments_of key (present entries.now))) 0 end ≡ true }
         requires joined { AreJoined 0 end runs.now }
-        requires filled { (at : ℕ) → at < end → filler at runs.now ≡ giver key at segments.now }
-        ensures { result ≡ map (λ place. octet_by octet_in place (earliest (map arrival_of (segments_of key segments.now)) place)) (range_with_len 0 end) }
+        requires filled { (at : ℕ) → at < end → filler at runs.now ≡ giver key at entries.now }
+        ensures { result ≡ map (λ place. octet_by octet_in place (earliest (map arrival_of (segments_of key (present entries.now))) place)) (range_with_len 0 end) }
     {
         Pieces {
-            segments,
+            entries,
             runs,
             key,
             place: 0,
@@ -81,8 +88,11 @@ impl<'a> Iterator for Pieces<'a> {
         let Some(by) = run.by else {
             return None;
         };
+        let Some(segment) = &self.entries[usize::from(by)] else {
+            return None;
+        };
         let len = usize::from(run.to - run.from);
-        let piece = self.segments[usize::from(by)].octets(usize::from(run.from), len);
+        let piece = segment.octets(usize::from(run.from), len);
         self.runs = rest;
         self.place = usize::from(run.to);
         Some(piece)

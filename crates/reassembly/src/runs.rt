@@ -175,6 +175,22 @@ pub(crate) fn has_gap(runs: &[Run], from: u16, to: u16) -> bool
     is_gap_among(&runs[first..last], from, to)
 }
 
+/// Whether a unit with so many places has a hole, of which the places from `from` to the place before `to` were filled last.
+pub(crate) fn has_hole(runs: &[Run], from: u16, to: u16, places: u16) -> bool
+    requires order { AreInOrder runs.now }
+    requires within { (from ≤ places) × (to ≤ places) }
+    ensures { result ≡ list_any (is_gap 0 places) runs.now }
+{
+    // Most often there is one beside what was filled.
+    if has_gap(runs, from - from.min(1), from) {
+        return true;
+    }
+    if has_gap(runs, to, places.min(to.saturating_add(1))) {
+        return true;
+    }
+    has_gap(runs, 0, places)
+}
+
 /// Whether one of some runs is a hole with a place from `from` to the place before `to`.
 fn is_gap_among(runs: &[Run], from: u16, to: u16) -> bool
     ensures { result ≡ list_any (is_gap from to) runs.now }

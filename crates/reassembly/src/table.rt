@@ -12,14 +12,18 @@ ghost use Rattle.reassembly.specs.State.{IsAt, IsReady, IsWholeSlot, MayKeep, Na
 
 use crate::openings::{Opening, Openings};
 use crate::pieces::Pieces;
-use crate::runs::{Runs, has_gap};
+use crate::runs::{Runs, has_gap, has_hole};
 use crate::segment::{Key, Segment, Shape};
+use crate::segments::Segments;
 use clnp_views::View;
 use nsap::clnp_base::NoMemory;
 use std::alloc::Global;
 use std::marker::Model;
 
 mod ending;
+mod room;
+
+use room::make_room;
 
 /// The numbers that a table keeps to.
 #[derive(Clone, Copy, PartialEq, Eq)]
@@ -74,27 +78,28 @@ pub struct Expired {
 pub struct Table {
     limits: TableLimits,
     openings: Openings,
-    segments: Vec<Segment>,
+    segments: Segments,
     runs: Runs,
     /// Room for other indices of the segments.
     names: Vec<u16>,
-    held: u32,
 }
 
 impl Model for Table {
     ghost use Rattle.std.specs.Prelude.{◌≤◌, vec_capacity};
     ghost use Rattle.reassembly.specs.State.{TableState};
+    ghost use Rattle.reassembly.specs.Entries.{present};
     ghost use Rattle.reassembly.specs.Index.{IsIndexed};
+    ghost use Rattle.reassembly.specs.Offered.{total_size};
     ghost use Rattle.reassembly.specs.Sound.{IsSound};
 
     ghost Value = { TableState };
 
-    ghost view = { λ t. record { limits = t.limits; openings = t.openings.list; slots = t.openings.slots; segments = t.segments.items } };
+    ghost view = { λ t. record { limits = t.limits; openings = t.openings.list; slots = t.openings.slots; segments = present t.segments.entries } };
 
     // Room for all that the limits allow was reserved when the table was made.
-    ghost invariant = { λ t. IsSound t.limits t.openings.list t.segments.items t.held
-        × (t.limits.slots ≤ t.openings.room) × (t.limits.segments ≤ vec_capacity t.segments)
-        × IsIndexed t.limits t.openings.list t.segments.items t.runs (vec_capacity t.names) };
+    ghost invariant = { λ t. IsSound t.limits t.openings.list (present t.segments.entries) (total_size (present t.segments.entries))
+        × (t.limits.slots ≤ t.openings.room) × (t.limits.segments ≤ t.segments.room)
+        × IsIndexed t.limits t.openings.list t.segments t.runs (vec_capacity t.names) };
 }
 
 impl Table {
@@ -109,10 +114,10 @@ impl Table {
         ensures limits { IfOk result (λ table. table.limits ≡ limits) }
     {
         let openings = Openings::new(alloc, usize::from(limits.slots))?;
-        let Ok(segments) = Vec::with_capacity(alloc, usize::from(limits.segments)) else {
-            return Err(NoMemory);
-        };
-        let Ok(names) = Vec::with_capacity(alloc, usize::from(limits.segments)) else {
+        // An index of an entry has 16 bits.
+        let entries = (2 * usize::from(limits.segments)).min(65_535);
+        let segments = Segments::new(alloc, entries)?;
+        let Ok(names) = Vec::with_capacity(alloc, entries) else {
             return Err(NoMemory);
         };
         let room = 2 * usize::from(limits.segments) + usize::from(limits.slots);
@@ -123,7 +128,6 @@ impl Table {
             segments,
             runs,
             names,
-            held: 0,
         })
     }
 
@@ -169,12 +173,13 @@ impl Table {
             → option_map said result ≡ buffer.refusal self.now.limits (arrival_of segment.now) buffers }
         ensures not_kept { IfSome result (λ answer. was_kept answer ≡ false) }
         ensures room { IfNone result (MayKeep self.now segment.now) }
+        ensures uncovered { IfNone result (are_covered (map arrival_of (segments_of segment.now.key self.now.segments)) segment.now.offset (arrival_of segment.now).len ≡ false) }
     {
         if let Some(kept) = self.other_shape(place, segment.shape) {
             let offered = segment.shape;
             return Some(Accept::Interference { kept, offered });
         }
-        let held = self.held;
+        let held = self.segments.held();
         if self.is_there(place, segment) {
             return Some(Accept::Repeat);
         }
@@ -232,6 +237,7 @@ impl Table {
         requires offered { MayCome segment }
         requires place { place ≡ place_of segment.key self.old.openings }
         requires room { MayKeep self.old segment }
+        requires uncovered { are_covered (map arrival_of (segments_of segment.key self.old.segments)) segment.offset (arrival_of segment).len ≡ false }
         ensures answered { (buffers : List (Buffer Extent)) → Stands self.old buffers
             → said result ≡ buffer.kept_answer segment.key (buffer.with_kept self.old.limits now (arrival_of segment) buffers) }
         ensures stands { (buffers : List (Buffer Extent)) → Stands self.old buffers
@@ -243,14 +249,13 @@ impl Table {
     {
         let place = self.place_for(now, place, &segment);
         let shape = segment.shape;
-        self.held += segment.pdu.frame_len() as u32;
-        let index = self.segments.len() as u16;
-        self.runs.fill(place, segment.offset, segment.end(), index);
-        let Ok(()) = self.segments.push(segment) else {
-            unreachable!()
-        };
+        let (from, to) = (segment.offset, segment.end());
+        make_room(&mut self.segments, &mut self.runs, &mut self.names);
+        let index = self.segments.entries().len() as u16;
+        self.runs.fill(place, from, to, index);
+        self.segments.push(segment);
         let slot = self.openings.slot_at(place);
-        if has_gap(self.runs.group(place), 0, shape.data_len()) {
+        if has_hole(self.runs.group(place), from, to, shape.data_len()) {
             Accept::Held
         } else {
             Accept::Whole(SlotNo(slot))
@@ -297,7 +302,12 @@ impl Table {
         let place = self.place_at(slot);
         let opening = self.openings.at(place);
         let end = usize::from(opening.shape.data_len());
-        Pieces::new(&self.segments, self.runs.group(place), opening.key, end)
+        Pieces::new(
+            self.segments.entries(),
+            self.runs.group(place),
+            opening.key,
+            end,
+        )
     }
 
     /// How many octets are held: of the whole frames in which kept segments came.
@@ -305,7 +315,7 @@ impl Table {
         ensures held { (buffers : List (Buffer Extent)) → Stands self.now buffers → result ≡ buffer.held buffers }
         ensures within { result ≤ self.now.limits.budget }
     {
-        self.held
+        self.segments.held()
     }
 
     /// How many segments are kept.

@@ -1,22 +1,25 @@
 //! Buffers taken out of the table, whole or because their time has ended.
-ghost use Rattle.std.specs.Prelude.{◌≡◌, ◌≢◌, ◌+◌, ◌*◌, ◌≤◌, ◌<◌, ◌^◌, ℕ, List, [], if◌then◌else◌, length, nat_le, nat_lt, take, None, Some, IfNone, IfSome, MatchOption, option_map, slice_get, vec_capacity};
-ghost use Rattle.std.specs.List.{All, AllByRecursion, position_from, remove};
+ghost use Rattle.std.specs.Prelude.{◌≡◌, ◌≢◌, ◌+◌, ◌*◌, ◌≤◌, ◌<◌, ℕ, List, Option, [], ◌∷◌, ◌++◌, length, nat_le, nat_lt, take, None, Some, IfNone, IfSome, MatchOption, option_map, slice_get};
+ghost use Rattle.std.specs.List.{All, AllByRecursion};
 ghost use Rattle.clnp_views.specs.Extent.{Extent};
 ghost use Rattle.reassembly.specs.declared.openings.Opening.{Opening};
-ghost use Rattle.reassembly.specs.Offered.{total_size};
+ghost use Rattle.reassembly.specs.declared.runs.Run.{Run};
+ghost use Rattle.reassembly.specs.Offered.{MayCome, openings_of};
 ghost use Rattle.reassembly.specs.Buffer as buffer;
 ghost use Rattle.reassembly.specs.Buffer.{Buffer};
-ghost use Rattle.reassembly.specs.Ending.{first_pdu, is_start_of, others_of, places_without, without_last};
-ghost use Rattle.reassembly.specs.Index.{IsIndexOf, MayBeIndexed};
+ghost use Rattle.reassembly.specs.Entries.{IsWithin, present, segment_by};
+ghost use Rattle.reassembly.specs.Index.{IsIndexOf, IsNext, MayBeIndexed, emptied_by};
 ghost use Rattle.reassembly.specs.Kept.{IsKept};
 ghost use Rattle.reassembly.specs.NoWhole.{HasNoWhole, IsCompleted};
 ghost use Rattle.reassembly.specs.Openings.{AreWithout};
+ghost use Rattle.reassembly.specs.Runs.{AreInOrder, first_by, total_runs};
 ghost use Rattle.reassembly.specs.State.{IsAt, IsReady, IsWholeSlot, Names, SlotsStay, Stands, TableState, segments_of};
 
 use super::{Expired, SlotNo, Table};
 use crate::openings::Openings;
-use crate::runs::Runs;
+use crate::runs::{Run, Runs};
 use crate::segment::{Key, Segment};
+use crate::segments::{Segments, last_of};
 use clnp_views::View;
 
 impl Table {
@@ -49,10 +52,9 @@ impl Table {
     {
         let place = self.place_at(slot);
         let key = self.openings.at(place).key;
-        drop_last(&mut self.segments, &key);
-        close_empty(&mut self.openings, place, &self.segments, &key);
-        self.held = total_size(&self.segments);
-        reindex(&mut self.runs, &self.openings, &self.segments);
+        self.segments.take_last(&key);
+        close_empty(&mut self.openings, place, self.segments.entries(), &key);
+        reindex(&mut self.runs, &self.openings, self.segments.entries());
     }
 
     /// Takes out the buffer whose time has ended at a moment: the one with the earliest deadline, the one that was
@@ -82,7 +84,6 @@ impl Table {
         self.openings.clear();
         self.segments.clear();
         self.runs.clear();
-        self.held = 0;
     }
 
     /// Takes the buffer at a place out, and gives the PDU of its earliest segment at the beginning of the unit.
@@ -97,54 +98,51 @@ impl Table {
         ensures slots { SlotsStay self.old self.new }
         ensures limits { self.new.limits ≡ self.old.limits }
     {
-        let key = self.openings.remove(place).key;
+        let first = take_all(&mut self.segments, self.runs.group(place));
         self.runs.remove(place);
-        places_without(&mut self.names, &self.segments, &key);
-        self.runs.rename(&self.names);
-        let first = take_first(&mut self.segments, &key);
-        drop_all(&mut self.segments, &key);
-        self.held = total_size(&self.segments);
+        self.openings.remove(place);
         first
     }
 }
 
-/// Writes down where each segment stands once those of a key are taken out.
-fn places_without(names: &mut Vec<u16>, segments: &[Segment], key: &Key)
-    requires few { length segments.now < 2 ^ 16 }
-    requires room { length segments.now ≤ vec_capacity names.old }
-    ensures names { names.new.items ≡ places_without key.now 0 segments.now }
-    ensures capacity { vec_capacity names.old ≤ vec_capacity names.new }
+/// Takes the segments out that fill some runs, and gives the PDU of the one that fills the first place.
+fn take_all(segments: &mut Segments, runs: &[Run]) -> Option<View>
+    requires { AllByRecursion (λ run. IsWithin (length segments.old.entries) run.by) runs.now }
+    ensures entries { segments.new.entries ≡ emptied_by runs.now segments.old.entries }
+    ensures first { result ≡ option_map (λ segment. segment.pdu) (segment_by (first_by runs.now) segments.old.entries) }
+    ensures room { segments.new.room ≡ segments.old.room }
 {
-    names.clear();
-    let mut next = 0;
-    for segment in segments {
-        let Ok(()) = names.push(next) else {
-            unreachable!()
-        };
-        next = place_behind(next, segment.key.is(key));
+    let Some((first, others)) = runs.split_first() else {
+        return None;
+    };
+    let taken = segments.take(first.by);
+    take_each(segments, others);
+    Some(taken?.pdu)
+}
+
+/// Takes the segments out that fill some runs.
+fn take_each(segments: &mut Segments, runs: &[Run])
+    requires { AllByRecursion (λ run. IsWithin (length segments.old.entries) run.by) runs.now }
+    ensures entries { segments.new.entries ≡ emptied_by runs.now segments.old.entries }
+    ensures room { segments.new.room ≡ segments.old.room }
+{
+    for run in runs {
+        segments.take(run.by);
     }
 }
 
-/// The place behind that of a segment, which is its own where it is taken out.
-fn place_behind(place: u16, is_out: bool) -> u16
-    requires { place + 1 < 2 ^ 16 }
-    ensures { result ≡ (if is_out then place else place + 1) }
-{
-    if is_out { place } else { place + 1 }
-}
-
 /// Makes the runs of each opening anew, from its segments.
-fn reindex(runs: &mut Runs, openings: &Openings, segments: &[Segment])
-    requires kept { MayBeIndexed openings.now.list segments.now }
+fn reindex(runs: &mut Runs, openings: &Openings, entries: &[Option<Segment>])
+    requires kept { MayBeIndexed openings.now.list entries.now }
     requires slots { length openings.now.list ≤ runs.old.slots }
-    requires room { 2 * length segments.now + length openings.now.list ≤ runs.old.room }
-    ensures index { IsIndexOf segments.now openings.now.list runs.new.groups }
+    requires room { 2 * length (present entries.now) + length openings.now.list ≤ runs.old.room }
+    ensures index { IsIndexOf entries.now openings.now.list runs.new.groups }
     ensures slots { runs.old.slots ≤ runs.new.slots }
     ensures room { runs.old.room ≤ runs.new.room }
 {
     runs.clear();
     open_all(runs, openings);
-    fill_all(runs, openings, segments);
+    fill_all(runs, openings, entries);
 }
 
 /// Opens each unit, with all its places unfilled.
@@ -163,95 +161,50 @@ fn open_all(runs: &mut Runs, openings: &Openings)
 }
 
 /// Fills the places of each segment, in the order in which they came.
-fn fill_all(runs: &mut Runs, openings: &Openings, segments: &[Segment])
-    requires kept { MayBeIndexed openings.now.list segments.now }
+fn fill_all(runs: &mut Runs, openings: &Openings, entries: &[Option<Segment>])
+    requires kept { MayBeIndexed openings.now.list entries.now }
     requires index { IsIndexOf [] openings.now.list runs.old.groups }
-    requires room { 2 * length segments.now + length openings.now.list ≤ runs.old.room }
-    ensures index { IsIndexOf segments.now openings.now.list runs.new.groups }
+    requires room { 2 * length (present entries.now) + length openings.now.list ≤ runs.old.room }
+    ensures index { IsIndexOf entries.now openings.now.list runs.new.groups }
     ensures slots { runs.old.slots ≤ runs.new.slots }
     ensures room { runs.old.room ≤ runs.new.room }
 {
-    for (index, segment) in segments.iter().enumerate() {
-        let Some(place) = openings.place_of(&segment.key) else {
-            unreachable!()
-        };
-        runs.fill(place, segment.offset, segment.end(), index as u16);
+    for (index, entry) in entries.iter().enumerate() {
+        fill_entry(runs, openings, entry, index as u16);
     }
 }
 
-/// Takes the earliest segment of a key that begins its unit out, and gives its PDU.
-fn take_first(segments: &mut Vec<Segment>, key: &Key) -> Option<View>
-    ensures first { result ≡ first_pdu key.now segments.old.items }
-    ensures others { others_of key.now segments.new.items ≡ others_of key.now segments.old.items }
-    ensures capacity { vec_capacity segments.new ≡ vec_capacity segments.old }
+/// Fills the places of the segment in an entry, if it has one.
+fn fill_entry(runs: &mut Runs, openings: &Openings, entry: &Option<Segment>, by: u16)
+    requires owned { IfSome entry.now (λ segment. openings_of segment.key openings.now.list ≡ 1) }
+    requires came { IfSome entry.now MayCome }
+    requires number { length runs.old.groups ≡ length openings.now.list }
+    requires order { (slot : ℕ) (group : List Run) → slice_get runs.old.groups slot ≡ Some group → AreInOrder group }
+    requires room { IfSome entry.now (λ _. total_runs runs.old.groups + 2 ≤ runs.old.room) }
+    ensures index { (before : List (Option Segment)) → length before ≡ by → IsNext before entry.now openings.now.list
+        → IsIndexOf before openings.now.list runs.old.groups → IsIndexOf (before ++ entry.now ∷ []) openings.now.list runs.new.groups }
+    ensures slots { runs.old.slots ≤ runs.new.slots }
+    ensures room { runs.old.room ≤ runs.new.room }
 {
-    let index = first_at_start(segments, key)?;
-    Some(segments.remove(index).pdu)
-}
-
-/// Takes all segments of a key out.
-fn drop_all(segments: &mut Vec<Segment>, key: &Key)
-    ensures others { segments.new.items ≡ others_of key.now segments.old.items }
-    ensures capacity { vec_capacity segments.new ≡ vec_capacity segments.old }
-{
-    segments.retain(|segment| !segment.key.is(key));
-}
-
-/// Takes the last segment of a key out, if there is one.
-fn drop_last(segments: &mut Vec<Segment>, key: &Key)
-    ensures others { segments.new.items ≡ without_last key.now segments.old.items }
-    ensures capacity { vec_capacity segments.new ≡ vec_capacity segments.old }
-{
-    if let Some(last) = last_of(segments, key) {
-        segments.remove(last);
-    }
+    let Some(segment) = entry else {
+        return;
+    };
+    let Some(place) = openings.place_of(&segment.key) else {
+        unreachable!()
+    };
+    runs.fill(place, segment.offset, segment.end(), by);
 }
 
 /// Takes the opening of a key at a place out, if no segment has the key.
-fn close_empty(openings: &mut Openings, place: usize, segments: &[Segment], key: &Key)
+fn close_empty(openings: &mut Openings, place: usize, entries: &[Option<Segment>], key: &Key)
     requires { place < length openings.old.list }
-    ensures closed { segments_of key.now segments.now ≡ [] → AreWithout place openings.old openings.new }
-    ensures open { segments_of key.now segments.now ≢ [] → openings.new ≡ openings.old }
+    ensures closed { segments_of key.now (present entries.now) ≡ [] → AreWithout place openings.old openings.new }
+    ensures open { segments_of key.now (present entries.now) ≢ [] → openings.new ≡ openings.old }
     ensures room { openings.old.room ≤ openings.new.room }
 {
-    if last_of(segments, key).is_none() {
+    if last_of(entries, key).is_none() {
         openings.remove(place);
     }
-}
-
-/// The index of the earliest segment of a key that begins its unit.
-fn first_at_start(segments: &[Segment], key: &Key) -> Option<usize>
-    ensures { result ≡ position_from (is_start_of key.now) 0 segments.now }
-{
-    segments
-        .iter()
-        .position(|segment| segment.key.is(key) && segment.offset == 0)
-}
-
-/// The index of the last segment of a key.
-fn last_of(segments: &[Segment], key: &Key) -> Option<usize>
-    ensures none { IfNone result (segments_of key.now segments.now ≡ []) }
-    ensures some { IfSome result (λ _. segments_of key.now segments.now ≢ []) }
-    ensures last { IfSome result (λ index. (index < length segments.now) × (remove segments.now index ≡ without_last key.now segments.now)) }
-{
-    for index in (0..segments.len()).rev() {
-        if segments[index].key.is(key) {
-            return Some(index);
-        }
-    }
-    None
-}
-
-/// The octets of all frames in which some segments came.
-fn total_size(segments: &[Segment]) -> u32
-    requires { total_size segments.now < 2 ^ 32 }
-    ensures { result ≡ total_size segments.now }
-{
-    let mut total = 0;
-    for segment in segments {
-        total += segment.pdu.frame_len() as u32;
-    }
-    total
 }
 
 /// The place of the opening with the earliest deadline that isn't above a moment, the first of equals.

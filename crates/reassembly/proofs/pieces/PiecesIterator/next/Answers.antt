@@ -1,18 +1,24 @@
 -- A run of the unit is a piece of the earliest segment that has its places, and the rest follows.
-use Rattle.std.proofs.Common.{rules, ◌≡◌, ℕ, ◌-◌, ◌<◌, ◌≤◌, ◌++◌, ◌∷◌, Some, None, get_or, length, length-append, map, refl, sym, ap, subst, ◌∙◌, arith}
-use Rattle.std.specs.Prelude.{is_some}
+use Rattle.std.proofs.Common.{rules, ◌≡◌, ℕ, ◌-◌, ◌<◌, ◌≤◌, ◌++◌, ◌∷◌, true, false, Some, None, get_or, length, length-append, map, refl, sym, ap, subst, ◌∙◌, arith}
+use Rattle.std.specs.Prelude.{is_some, slice_get}
 use Rattle.std.specs.List.{range_with_len}
 use Rattle.std.proofs.lemmas.Bool.{both_ways}
+use Rattle.std.proofs.lemmas.List.{get_or_default}
 use Rattle.std.proofs.lemmas.List.FromFn.{length-map-range_with_len}
+use Rattle.std.proofs.lemmas.Option.{slice_get_read}
 use Rattle.reassembly.specs.Arrival.{arrival_of, is_covered, octet_in}
+use Rattle.reassembly.specs.Entries.{present}
+use Rattle.reassembly.specs.Index.{entry_gives}
 use Rattle.reassembly.specs.Offered.{MayCome}
 use Rattle.reassembly.specs.Runs.{AreJoined, filler}
 use Rattle.reassembly.proofs.Covered.{each_covered, covered_rest}
 use Rattle.nsap.proofs.ClnpBase.Found.{is_first}
-use Rattle.nsap.proofs.ClnpBase.Lists.{AllByRecursion-get_or}
+use Rattle.nsap.proofs.ClnpBase.Choices.{none_since}
+use Rattle.nsap.proofs.ClnpBase.Lists.{AllByRecursion-slice_get}
+use Rattle.reassembly.proofs.Entries.{present_at}
 use Rattle.reassembly.proofs.Filling.{have_from, joined_order, not_behind}
 use Rattle.reassembly.proofs.Givers.{covered-giver}
-use Rattle.reassembly.proofs.Run.{arrivals_of, does_give, gives}
+use Rattle.reassembly.proofs.Run.{arrivals_of, does_give}
 use Rattle.reassembly.proofs.Walk.{octets-add, octet_at, octets_at, piece_is}
 use Rattle.reassembly.proofs.pieces.PiecesIterator.next.Goals as goal
 
@@ -26,9 +32,9 @@ returns-in_default-by-clause-steps c =
     let order = joined_order run.to p.end rest joined.1.1 in
     let on : p.place < run.to = omega (arith, joined.0, joined.1.0) in
     let none : filler p.place p.runs.now ≡ None = ap (filler p.place) runs_are ∙ (rw (have_from p.place run (omega (arith, joined.0)) on) c.in_default-by.is) in
-    let lacks = covered-giver p.key p.place p.segments.now ∙ ap is_some (sym (c.self.invariant.4 p.place (omega arith) (omega (arith, on, order))) ∙ none) in
-    let covered = each_covered (arrivals_of p.key p.segments.now) p.place (p.end - p.place) p.place c.self.invariant.2 (omega arith) (omega (arith, on, order)) in
-    absurd (both_ways (is_covered (arrivals_of p.key p.segments.now) p.place) lacks covered)
+    let lacks = covered-giver p.key p.place p.entries.now ∙ ap is_some (sym (c.self.invariant.4 p.place (omega arith) (omega (arith, on, order))) ∙ none) in
+    let covered = each_covered (arrivals_of p.key (present p.entries.now)) p.place (p.end - p.place) p.place c.self.invariant.2 (omega arith) (omega (arith, on, order)) in
+    absurd (both_ways (is_covered (arrivals_of p.key (present p.entries.now)) p.place) lacks covered)
 
 pub offset_bounds-self-inside-from : goal.offset_bounds-self-inside-from
 offset_bounds-self-inside-from c =
@@ -39,7 +45,7 @@ offset_bounds-self-inside-from c =
     let joined : AreJoined p.place p.end (run ∷ rest) = subst (AreJoined p.place p.end) runs_are c.self.invariant.3 in
     let order = joined_order run.to p.end rest joined.1.1 in
     let first = λ (at : ℕ) (low : p.place ≤ at) (high : at < run.to).
-    is_first (gives p.key at) c.from.result p.segments.now
+    is_first (entry_gives p.key at) c.from.result p.entries.now
     (sym (c.self.invariant.4 at low (omega (arith, high, order))) ∙ ap (filler at) runs_are
     ∙ (rw (have_from at run (omega (arith, low, joined.0)) high) (c.in-Some-by.is ∙ ap (λ (n : ℕ). Some n) (sym c.from.ensures)))) in
     let on : p.place < run.to = omega (arith, joined.0, joined.1.0) in
@@ -55,7 +61,7 @@ bounds-self-inside-from c =
     let joined : AreJoined p.place p.end (run ∷ rest) = subst (AreJoined p.place p.end) runs_are c.self.invariant.3 in
     let order = joined_order run.to p.end rest joined.1.1 in
     let first = λ (at : ℕ) (low : p.place ≤ at) (high : at < run.to).
-    is_first (gives p.key at) c.from.result p.segments.now
+    is_first (entry_gives p.key at) c.from.result p.entries.now
     (sym (c.self.invariant.4 at low (omega (arith, high, order))) ∙ ap (filler at) runs_are
     ∙ (rw (have_from at run (omega (arith, low, joined.0)) high) (c.in-Some-by.is ∙ ap (λ (n : ℕ). Some n) (sym c.from.ensures)))) in
     let on : p.place < run.to = omega (arith, joined.0, joined.1.0) in
@@ -70,11 +76,16 @@ octets-piece-requires-clause-came c =
     let joined : AreJoined p.place p.end (run ∷ rest) = subst (AreJoined p.place p.end) runs_are c.self.invariant.3 in
     let order = joined_order run.to p.end rest joined.1.1 in
     let first = λ (at : ℕ) (low : p.place ≤ at) (high : at < run.to).
-    is_first (gives p.key at) c.from.result p.segments.now
+    is_first (entry_gives p.key at) c.from.result p.entries.now
     (sym (c.self.invariant.4 at low (omega (arith, high, order))) ∙ ap (filler at) runs_are
     ∙ (rw (have_from at run (omega (arith, low, joined.0)) high) (c.in-Some-by.is ∙ ap (λ (n : ℕ). Some n) (sym c.from.ensures)))) in
     let on : p.place < run.to = omega (arith, joined.0, joined.1.0) in
-    AllByRecursion-get_or MayCome p.segments.now c.from.result c.index-self-from.result (first p.place (omega arith) on).within c.self.invariant.1
+    let segment = c.in-Some-entries.segment in
+    let inside = (first p.place (omega arith) on).within in
+    let at : slice_get p.entries.now c.from.result ≡ Some (Some segment) = slice_get_read p.entries.now (length p.entries.now) c.from.result (Some segment) refl inside
+    (sym c.in-Some-entries.is ∙ get_or_default p.entries.now c.from.result c.index-self-from.result (Some segment) inside) in
+    let there = present_at p.entries.now c.from.result segment at in
+    AllByRecursion-slice_get MayCome (present p.entries.now) there.0 segment there.1 c.self.invariant.1
 
 pub octets-piece-requires-clause-from : goal.octets-piece-requires-clause-from
 octets-piece-requires-clause-from c =
@@ -85,13 +96,14 @@ octets-piece-requires-clause-from c =
     let joined : AreJoined p.place p.end (run ∷ rest) = subst (AreJoined p.place p.end) runs_are c.self.invariant.3 in
     let order = joined_order run.to p.end rest joined.1.1 in
     let first = λ (at : ℕ) (low : p.place ≤ at) (high : at < run.to).
-    is_first (gives p.key at) c.from.result p.segments.now
+    is_first (entry_gives p.key at) c.from.result p.entries.now
     (sym (c.self.invariant.4 at low (omega (arith, high, order))) ∙ ap (filler at) runs_are
     ∙ (rw (have_from at run (omega (arith, low, joined.0)) high) (c.in-Some-by.is ∙ ap (λ (n : ℕ). Some n) (sym c.from.ensures)))) in
     let on : p.place < run.to = omega (arith, joined.0, joined.1.0) in
-    let segment = get_or p.segments.now c.from.result c.index-self-from.result in
-    let read = ap (get_or p.segments.now c.from.result) c.index-self-from.is in
-    omega (arith, (does_give p.key p.place segment ((first p.place (omega arith) on).passes segment read)).from, c.from-2.ensures, joined.0)
+    let segment = c.in-Some-entries.segment in
+    let read : Some segment ≡ get_or p.entries.now c.from.result (Some segment) = sym c.in-Some-entries.is
+    ∙ get_or_default p.entries.now c.from.result c.index-self-from.result (Some segment) (first p.place (omega arith) on).within in
+    omega (arith, (does_give p.key p.place segment ((first p.place (omega arith) on).passes (Some segment) read)).from, c.from-2.ensures, joined.0)
 
 pub octets-piece-requires-clause-to : goal.octets-piece-requires-clause-to
 octets-piece-requires-clause-to c =
@@ -102,13 +114,14 @@ octets-piece-requires-clause-to c =
     let joined : AreJoined p.place p.end (run ∷ rest) = subst (AreJoined p.place p.end) runs_are c.self.invariant.3 in
     let order = joined_order run.to p.end rest joined.1.1 in
     let first = λ (at : ℕ) (low : p.place ≤ at) (high : at < run.to).
-    is_first (gives p.key at) c.from.result p.segments.now
+    is_first (entry_gives p.key at) c.from.result p.entries.now
     (sym (c.self.invariant.4 at low (omega (arith, high, order))) ∙ ap (filler at) runs_are
     ∙ (rw (have_from at run (omega (arith, low, joined.0)) high) (c.in-Some-by.is ∙ ap (λ (n : ℕ). Some n) (sym c.from.ensures)))) in
     let on : p.place < run.to = omega (arith, joined.0, joined.1.0) in
-    let segment = get_or p.segments.now c.from.result c.index-self-from.result in
-    let read = ap (get_or p.segments.now c.from.result) c.index-self-from.is in
-    let last = does_give p.key (run.to - 1) segment ((first (run.to - 1) (omega (arith, on)) (omega (arith, on))).passes segment read) in
+    let segment = c.in-Some-entries.segment in
+    let read : Some segment ≡ get_or p.entries.now c.from.result (Some segment) = sym c.in-Some-entries.is
+    ∙ get_or_default p.entries.now c.from.result c.index-self-from.result (Some segment) (first p.place (omega arith) on).within in
+    let last = does_give p.key (run.to - 1) segment ((first (run.to - 1) (omega (arith, on)) (omega (arith, on))).passes (Some segment) read) in
     omega (arith, last.to, c.from-2.ensures, c.from-len.ensures, joined.1.0)
 
 pub invariant_of-self : goal.invariant_of-self
@@ -123,7 +136,7 @@ invariant_of-self c =
     let next : run.to ≡ c.from-self-inside.result = sym c.from-self-inside.ensures in (
       omega (arith, order, next),
       c.self.invariant.1,
-      covered_rest (arrivals_of p.key p.segments.now) p.place c.from-self-inside.result p.end (omega (arith, on, next)) c.self.invariant.2,
+      covered_rest (arrivals_of p.key (present p.entries.now)) p.place c.from-self-inside.result p.end (omega (arith, on, next)) c.self.invariant.2,
       subst (λ (n : ℕ). AreJoined n p.end rest) next joined.1.1,
       (λ at low high.
           let behind : filler at (run ∷ rest) ≡ filler at rest = rw (not_behind at run (omega (arith, low, next))) refl in
@@ -139,32 +152,51 @@ returns-clause-steps c =
     let joined : AreJoined p.place p.end (run ∷ rest) = subst (AreJoined p.place p.end) runs_are c.self.invariant.3 in
     let order = joined_order run.to p.end rest joined.1.1 in
     let first = λ (at : ℕ) (low : p.place ≤ at) (high : at < run.to).
-    is_first (gives p.key at) c.from.result p.segments.now
+    is_first (entry_gives p.key at) c.from.result p.entries.now
     (sym (c.self.invariant.4 at low (omega (arith, high, order))) ∙ ap (filler at) runs_are
     ∙ (rw (have_from at run (omega (arith, low, joined.0)) high) (c.in-Some-by.is ∙ ap (λ (n : ℕ). Some n) (sym c.from.ensures)))) in
     let on : p.place < run.to = omega (arith, joined.0, joined.1.0) in
-    let segment = get_or p.segments.now c.from.result c.index-self-from.result in
-    let read = ap (get_or p.segments.now c.from.result) c.index-self-from.is in
+    let segment = c.in-Some-entries.segment in
+    let read : Some segment ≡ get_or p.entries.now c.from.result (Some segment) = sym c.in-Some-entries.is
+    ∙ get_or_default p.entries.now c.from.result c.index-self-from.result (Some segment) (first p.place (omega arith) on).within in
     let next = c.from-self-inside.result in
     let next_is : next ≡ run.to = c.from-self-inside.ensures in
     let from_is : c.from-2.result ≡ p.place = c.from-2.ensures ∙ joined.0 in
     let len_is : c.from-len.result ≡ next - p.place = omega (arith, c.from-len.ensures, next_is, joined.0) in
     let piece = c.octets-piece.ensures
     ∙ (λ i. map (octet_in (arrival_of segment)) (range_with_len (from_is i) (len_is i)))
-    ∙ piece_is p.key p.segments.now c.from.result p.place (next - p.place) segment
+    ∙ piece_is p.key p.entries.now c.from.result p.place (next - p.place) segment
     (λ at low high. sym (c.self.invariant.4 at low (omega (arith, high, next_is, order, on))) ∙ ap (filler at) runs_are
     ∙ (rw (have_from at run (omega (arith, low, joined.0)) (omega (arith, high, next_is, on))) (c.in-Some-by.is ∙ ap (λ (n : ℕ). Some n) (sym c.from.ensures)))) read in
-    let size = ap length piece ∙ length-map-range_with_len (octet_at p.key p.segments.now) p.place (next - p.place) in (
+    let size = ap length piece ∙ length-map-range_with_len (octet_at p.key p.entries.now) p.place (next - p.place) in (
       omega (arith, size, on, next_is),
-      sym c.self.view_is ∙ octets-add p.key p.segments.now p.place next p.end (omega (arith, on, next_is)) (omega (arith, order, next_is))
-          ∙ ap (λ l. l ++ octets_at p.key p.segments.now next (p.end - next)) (sym piece),
+      sym c.self.view_is ∙ octets-add p.key p.entries.now p.place next p.end (omega (arith, on, next_is)) (omega (arith, order, next_is))
+          ∙ ap (λ l. l ++ octets_at p.key p.entries.now next (p.end - next)) (sym piece),
     )
 
 pub returns-clause-goes : goal.returns-clause-goes
 returns-clause-goes c =
     let p = c.self.inside in
     let steps = returns-clause-steps c in
-    let left = octets_at p.key p.segments.now c.from-self-inside.result (p.end - c.from-self-inside.result) in
+    let left = octets_at p.key p.entries.now c.from-self-inside.result (p.end - c.from-self-inside.result) in
     let fewer : length left < length c.args.self.now =
     omega (arith, steps.0, ap length steps.1, length-append c.octets-piece.result.now left) in
     record { on = λ finite. search (rules, fewer); keeps = search rules; rests = search rules }
+
+pub returns-in_default-entries-clause-steps : goal.returns-in_default-entries-clause-steps
+returns-in_default-entries-clause-steps c =
+    let p = c.self.inside in
+    let run = c.in-Some.run'.now in
+    let rest = c.in-Some.rest.now in
+    let runs_are : p.runs.now ≡ run ∷ rest = c.in-Some.ensures.cases.0 in
+    let joined : AreJoined p.place p.end (run ∷ rest) = subst (AreJoined p.place p.end) runs_are c.self.invariant.3 in
+    let order = joined_order run.to p.end rest joined.1.1 in
+    let on : p.place < run.to = omega (arith, joined.0, joined.1.0) in
+    let first = is_first (entry_gives p.key p.place) c.from.result p.entries.now
+    (sym (c.self.invariant.4 p.place (omega arith) (omega (arith, on, order))) ∙ ap (filler p.place) runs_are
+    ∙ (rw (have_from p.place run (omega (arith, joined.0)) on) (c.in-Some-by.is ∙ ap (λ (n : ℕ). Some n) (sym c.from.ensures)))) in
+    let entry = get_or p.entries.now c.from.result c.index-self-from.result in
+    let passes = first.passes entry (get_or_default p.entries.now c.from.result c.index-self-from.result entry first.within) in
+    let none = none_since entry c.in_default-entries.not-Some in
+    let never : false ≡ true = sym (ap (entry_gives p.key p.place) none) ∙ passes in
+    absurd (cc)

@@ -2,6 +2,8 @@
 use Rattle.std.proofs.Common.{◌∙◌, ◌<◌, sym, ap, subst, length, refl}
 use Rattle.std.specs.Option.{option_map}
 use Rattle.reassembly.specs.Buffer.{without_due}
+use Rattle.reassembly.specs.Entries.{present}
+use Rattle.reassembly.specs.Offered.{total_size}
 use Rattle.reassembly.specs.State.{Stands}
 use Rattle.reassembly.proofs.Expiring.{due_gives, due_leaves, due_within, expired_of, nothing_due}
 use Rattle.reassembly.proofs.NoWhole.{expired_none_whole, expired_ready}
@@ -21,24 +23,24 @@ returns-in_err-place-clause-stands c = λ buffers stands.
 pub at-requires : goal.at-requires
 at-requires c =
     let t = c.self.inside in
-    due_within t.limits t.openings.list t.openings.slots t.segments.items t.held c.args.now c.in_ok-place.place c.args.self.now c.self.view_is c.self.invariant.0 c.in_ok-place.ensures.due
+    due_within t.limits t.openings.list t.openings.slots (present t.segments.entries) (total_size (present t.segments.entries)) c.args.now c.in_ok-place.place c.args.self.now c.self.view_is c.self.invariant.0 c.in_ok-place.ensures.due
 
 pub take_out-first-requires : goal.take_out-first-requires
 take_out-first-requires c =
     let t = c.self.inside in
     subst (λ v. c.in_ok-place.place < length v.openings) c.self.view_is
-    (due_within t.limits t.openings.list t.openings.slots t.segments.items t.held c.args.now c.in_ok-place.place c.args.self.now c.self.view_is c.self.invariant.0 c.in_ok-place.ensures.due)
+    (due_within t.limits t.openings.list t.openings.slots (present t.segments.entries) (total_size (present t.segments.entries)) c.args.now c.in_ok-place.place c.args.self.now c.self.view_is c.self.invariant.0 c.in_ok-place.ensures.due)
 
 pub returns-clause-ended : goal.returns-clause-ended
 returns-clause-ended c = λ buffers stands.
     let t = c.self.inside in
-    due_gives t.limits t.openings.list t.openings.slots t.segments.items t.held c.args.now c.in_ok-place.place c.args.self.now c.self.view_is c.self.invariant.0 c.in_ok-place.ensures.due buffers stands
+    due_gives t.limits t.openings.list t.openings.slots (present t.segments.entries) (total_size (present t.segments.entries)) c.args.now c.in_ok-place.place c.args.self.now c.self.view_is c.self.invariant.0 c.in_ok-place.ensures.due buffers stands
     c.at.result.now c.at.ensures.opening c.take_out-first.result c.take_out-first.ensures.first _ refl
 
 pub returns-clause-stands : goal.returns-clause-stands
 returns-clause-stands c = λ buffers stands.
     let t = c.self.inside in
-    due_leaves t.limits t.openings.list t.openings.slots t.segments.items t.held c.args.now c.in_ok-place.place c.args.self.now c.self.view_is c.self.invariant.0 c.in_ok-place.ensures.due buffers stands
+    due_leaves t.limits t.openings.list t.openings.slots (present t.segments.entries) (total_size (present t.segments.entries)) c.args.now c.in_ok-place.place c.args.self.now c.self.view_is c.self.invariant.0 c.in_ok-place.ensures.due buffers stands
     c.take_out-first.new.self c.take_out-first.ensures.stands
 
 pub returns-in_err-place-clause-ready : goal.returns-in_err-place-clause-ready

@@ -6,6 +6,7 @@ use Rattle.std.proofs.lemmas.Option.{slice_get_within}
 use Rattle.reassembly.specs.declared.segment.Key.{Key}
 use Rattle.reassembly.specs.declared.segment.Segment.{Segment}
 use Rattle.reassembly.specs.Arrival.{are_covered, arrival_of, data_len}
+use Rattle.reassembly.specs.Entries.{present}
 use Rattle.reassembly.specs.Offered.{openings_of}
 use Rattle.reassembly.specs.State.{TableState}
 use Rattle.reassembly.proofs.Indexing.{empty_cover, gap_tells_cover}
@@ -48,10 +49,10 @@ returns-in-Some c =
     let shape = c.requires.shape c.in-Some.place there.opening c.in-Some.is at in
     let are = c.self.invariant.3.index_is.each c.in-Some.place there.opening c.group.result.now at_here c.group.ensures in
     let high = ap data_len shape in
-    let told = gap_tells_cover t.segments.items there.opening c.group.result.now segment.offset (arrival_of segment).len c.end-to.result are
+    let told = gap_tells_cover t.segments.entries there.opening c.group.result.now segment.offset (arrival_of segment).len c.end-to.result are
     (sym c.end-to.ensures.end) (omega (arith, high, c.end-to.ensures.within)) in
     ap not c.has_gap.ensures ∙ told
-    ∙ ap (λ (k : Key). are_covered (arrivals_of k t.segments.items) segment.offset (arrival_of segment).len) there.key_is
+    ∙ ap (λ (k : Key). are_covered (arrivals_of k (present t.segments.entries)) segment.offset (arrival_of segment).len) there.key_is
     ∙ ap (λ (v : TableState). are_covered (arrivals_of segment.key v.segments) segment.offset (arrival_of segment).len) c.self.view_is
 
 pub returns-in-None : goal.returns-in-None

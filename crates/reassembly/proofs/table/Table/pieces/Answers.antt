@@ -2,6 +2,7 @@ use Rattle.std.proofs.Common.{◌≡◌, ℕ, Some, map, slice_get, sym, ap, sub
 use Rattle.std.specs.List.{AllByRecursion, range_with_len}
 use Rattle.std.proofs.lemmas.Option.{same_Some, slice_get_within}
 use Rattle.reassembly.specs.declared.openings.Opening.{Opening}
+use Rattle.reassembly.specs.Entries.{present}
 use Rattle.reassembly.specs.Index.{giver}
 use Rattle.reassembly.specs.Runs.{AreJoined}
 use Rattle.reassembly.specs.Arrival.{are_covered, arrival_of, data_len, earliest, octet_in}
@@ -25,7 +26,7 @@ new-requires-clause-covered c =
     (c.place_at-place.ensures c.requires.buffer.key c.requires.named) in
     let opening : c.at-opening.result.now ≡ opening_of c.requires.buffer = same_Some c.at-opening.result.now (opening_of c.requires.buffer)
     (sym c.at-opening.ensures.opening ∙ ap (λ (t : TableState). slice_get t.openings c.place_at-place.result) c.self.view_is ∙ at) in
-    let segments : c.deref.result.now ≡ c.args.self.now.segments = c.deref.ensures.value ∙ ap (λ (t : TableState). t.segments) c.self.view_is in
+    let segments : present c.entries.result.now ≡ c.args.self.now.segments = ap present c.entries.ensures ∙ ap (λ (t : TableState). t.segments) c.self.view_is in
     let keeps = of_found (KeepsSegments c.args.self.now) c.requires.buffer.key c.requires.buffers c.requires.buffer c.requires.stands.segments c.requires.is_there in
     (λ i. are_covered (map arrival_of (segments_of (opening i).key (segments i))) 0 ((c.from-end.ensures ∙ c.data_len.ensures) i))
     ∙ ((λ i. are_covered (sym keeps.0 i) 0 (data_len (opening i).shape)) ∙ c.requires.whole)
@@ -60,7 +61,7 @@ new-requires-clause-filled c place within =
     let opening : c.at-opening.result.now ≡ opening_of c.requires.buffer = same_Some c.at-opening.result.now (opening_of c.requires.buffer) (sym c.at-opening.ensures.opening ∙ at) in
     let are = c.self.invariant.3.index_is.each c.place_at-place.result c.at-opening.result.now c.group.result.now (at ∙ ap (λ (o : Opening). Some o) (sym opening)) c.group.ensures in
     are.filled place (omega (arith, within, c.from-end.ensures, c.data_len.ensures))
-    ∙ ap (giver c.at-opening.result.now.key place) (sym c.deref.ensures.value)
+    ∙ ap (giver c.at-opening.result.now.key place) (sym c.entries.ensures)
 
 pub returns : goal.returns
 returns c buffers whole stands found named =
@@ -68,9 +69,9 @@ returns c buffers whole stands found named =
     let at = named_there c.args.self.now buffers whole c.place_at-place.result stands distinct found (c.place_at-place.ensures whole.key named) in
     let opening : c.at-opening.result.now ≡ opening_of whole = same_Some c.at-opening.result.now (opening_of whole)
     (sym c.at-opening.ensures.opening ∙ ap (λ (t : TableState). slice_get t.openings c.place_at-place.result) c.self.view_is ∙ at) in
-    let segments : c.deref.result.now ≡ c.args.self.now.segments = c.deref.ensures.value ∙ ap (λ (t : TableState). t.segments) c.self.view_is in
+    let segments : present c.entries.result.now ≡ c.args.self.now.segments = ap present c.entries.ensures ∙ ap (λ (t : TableState). t.segments) c.self.view_is in
     let keeps = of_found (KeepsSegments c.args.self.now) whole.key buffers whole stands.segments found in
-    let arrivals : map arrival_of (segments_of c.at-opening.result.now.key c.deref.result.now) ≡ whole.kept
+    let arrivals : map arrival_of (segments_of c.at-opening.result.now.key (present c.entries.result.now)) ≡ whole.kept
     = (λ i. map arrival_of (segments_of (opening i).key (segments i))) ∙ sym keeps.0 in
     let len : c.from-end.result ≡ data_len whole.shape = c.from-end.ensures ∙ c.data_len.ensures ∙ (λ i. data_len (opening i).shape) in
     c.new.ensures

@@ -1,7 +1,8 @@
 use Rattle.std.proofs.Common.{◌≡◌, ◌<◌, ℕ, List, [], ◌∷◌, ◌++◌, length, Some, slice_get, sym, ap, subst, refl, ◌∙◌, arith}
 use Rattle.reassembly.specs.declared.openings.Opening.{Opening}
 use Rattle.reassembly.specs.Kept.{openings_with, slots_with, with_opening}
-use Rattle.reassembly.specs.Offered.{openings_of}
+use Rattle.reassembly.specs.Entries.{present}
+use Rattle.reassembly.specs.Offered.{openings_of, total_size}
 use Rattle.reassembly.specs.State.{TableState}
 use Rattle.std.specs.List.{AllByRecursion}
 use Rattle.std.proofs.lemmas.Option.{same_Some}
@@ -55,7 +56,7 @@ open-requires-clause-room c =
     omega (
       arith,
       room,
-      total_few t.segments.items t.openings.list t.runs.groups c.self.invariant.3.index_is c.self.invariant.0.owned,
+      total_few t.segments.entries t.openings.list t.runs.groups c.self.invariant.3.index_is c.self.invariant.0.owned,
       c.self.invariant.0.few_segments,
       c.self.invariant.3.room,
     )
@@ -69,19 +70,21 @@ invariant_of-self c =
     let more = c.push.ensures.room in
     let t = c.self.inside in
     let opening : Opening = record { key = c.args.segment.now.key; shape = c.args.segment.now.shape; deadline = c.deadline_of.result } in
-    let empty = no_segments c.args.segment.now.key t.openings.list t.segments.items none c.self.invariant.0.owned in
+    let empty = no_segments c.args.segment.now.key t.openings.list (present t.segments.entries) none c.self.invariant.0.owned in
     let some : 0 < data_len c.args.segment.now.shape = omega (arith, c.requires.offered.is_part) in
     let groups = c.open.ensures.groups ∙ ap (λ n. t.runs.groups ++ unfilled n ∷ []) c.data_len.ensures in (
-      rw c.push.ensures.list (sound_opened c.self.inside.limits c.self.inside.openings.list c.self.inside.segments.items c.self.inside.held _
+      rw c.push.ensures.list (sound_opened t.limits t.openings.list (present t.segments.entries) (total_size (present t.segments.entries)) _
           c.self.invariant.0 none room (let p = c.requires.offered.is_part in omega arith)),
       omega arith,
       c.self.invariant.2,
       record {
-        index_is = subst (λ (l : List (List Run)). IsIndexOf t.segments.items c.push.new.self.list l) (sym groups)
-            (subst (λ (l : List Opening). IsIndexOf t.segments.items l (t.runs.groups ++ unfilled (data_len c.args.segment.now.shape) ∷ [])) (sym c.push.ensures.list)
-            (opened_index t.segments.items t.openings.list t.runs.groups opening c.self.invariant.3.index_is empty some));
+        index_is = subst (λ (l : List (List Run)). IsIndexOf t.segments.entries c.push.new.self.list l) (sym groups)
+            (subst (λ (l : List Opening). IsIndexOf t.segments.entries l (t.runs.groups ++ unfilled (data_len c.args.segment.now.shape) ∷ [])) (sym c.push.ensures.list)
+            (opened_index t.segments.entries t.openings.list t.runs.groups opening c.self.invariant.3.index_is empty some));
         slots = omega (arith, c.self.invariant.3.slots, c.open.ensures.slots);
         room = omega (arith, c.self.invariant.3.room, c.open.ensures.room);
+        within = c.self.invariant.3.within;
+        entries_fit = c.self.invariant.3.entries_fit;
         names = c.self.invariant.3.names;
       },
     )
@@ -100,7 +103,7 @@ returns-clause-opened c =
       limits = c.self.inside.limits;
       openings = c.self.inside.openings.list;
       slots = c.self.inside.openings.slots;
-      segments = c.self.inside.segments.items;
+      segments = present c.self.inside.segments.entries;
     } in
     let slots : c.push.new.self.slots ≡ slots_with c.args.segment.now c.push.result here
     = c.push.ensures.slots ∙ sym (slots_with-none c.args.segment.now c.push.result here none) in

@@ -57,7 +57,7 @@ returns-then-size-self-clause-refused c buffers stands =
     let owned = subst (λ (t : TableState). AllByRecursion (λ other. openings_of other.key t.openings ≡ 1) t.segments) c.self.view_is c.self.invariant.0.owned in
     let covered = covered_there c.args.self.now c.args.segment.now buffers c.args.self.now.segments c.is_there.result stands owned refl c.is_there.ensures in
     let full = full_there c.args.self.now c.args.segment.now.key buffers c.args.place c.lacks_slot.result stands (sym c.requires.place) c.lacks_slot.ensures in
-    let holds : c.self.inside.held ≡ held buffers = c.self.invariant.0.held_is ∙ (ap (λ (t : TableState). total_size t.segments) c.self.view_is
+    let holds : c.held-held.result ≡ held buffers = c.held-held.ensures ∙ (ap (λ (t : TableState). total_size t.segments) c.self.view_is
     ∙ sym (held_there c.args.self.now buffers stands owned)) in
     let budget : c.self.inside.limits.budget ≡ c.args.self.now.limits.budget = ap (λ (t : TableState). t.limits.budget) c.self.view_is in
     let most = c.self.invariant.0.budget in
@@ -75,12 +75,12 @@ returns-then-len-from-clause-refused c buffers stands =
     let owned = subst (λ (t : TableState). AllByRecursion (λ other. openings_of other.key t.openings ≡ 1) t.segments) c.self.view_is c.self.invariant.0.owned in
     let covered = covered_there c.args.self.now c.args.segment.now buffers c.args.self.now.segments c.is_there.result stands owned refl c.is_there.ensures in
     let full = full_there c.args.self.now c.args.segment.now.key buffers c.args.place c.lacks_slot.result stands (sym c.requires.place) c.lacks_slot.ensures in
-    let holds : c.self.inside.held ≡ held buffers = c.self.invariant.0.held_is ∙ (ap (λ (t : TableState). total_size t.segments) c.self.view_is
+    let holds : c.held-held.result ≡ held buffers = c.held-held.ensures ∙ (ap (λ (t : TableState). total_size t.segments) c.self.view_is
     ∙ sym (held_there c.args.self.now buffers stands owned)) in
     let budget : c.self.inside.limits.budget ≡ c.args.self.now.limits.budget = ap (λ (t : TableState). t.limits.budget) c.self.view_is in
     let most = c.self.invariant.0.budget in
     let size = c.frame_len-size.ensures.len in
-    let number : length c.self.inside.segments.items ≡ kept buffers = ap (λ (t : TableState). length t.segments) c.self.view_is
+    let number : c.len.result ≡ kept buffers = c.len.ensures ∙ ap (λ (t : TableState). length t.segments) c.self.view_is
     ∙ sym (number_there c.args.self.now buffers stands owned) in
     let limit : c.self.inside.limits.segments ≡ c.args.self.now.limits.segments = ap (λ (t : TableState). t.limits.segments) c.self.view_is in
     let within = c.if-size-self.false in
@@ -98,12 +98,12 @@ returns-clause-refused c buffers stands =
     let owned = subst (λ (t : TableState). AllByRecursion (λ other. openings_of other.key t.openings ≡ 1) t.segments) c.self.view_is c.self.invariant.0.owned in
     let covered = covered_there c.args.self.now c.args.segment.now buffers c.args.self.now.segments c.is_there.result stands owned refl c.is_there.ensures in
     let full = full_there c.args.self.now c.args.segment.now.key buffers c.args.place c.lacks_slot.result stands (sym c.requires.place) c.lacks_slot.ensures in
-    let holds : c.self.inside.held ≡ held buffers = c.self.invariant.0.held_is ∙ (ap (λ (t : TableState). total_size t.segments) c.self.view_is
+    let holds : c.held-held.result ≡ held buffers = c.held-held.ensures ∙ (ap (λ (t : TableState). total_size t.segments) c.self.view_is
     ∙ sym (held_there c.args.self.now buffers stands owned)) in
     let budget : c.self.inside.limits.budget ≡ c.args.self.now.limits.budget = ap (λ (t : TableState). t.limits.budget) c.self.view_is in
     let most = c.self.invariant.0.budget in
     let size = c.frame_len-size.ensures.len in
-    let number : length c.self.inside.segments.items ≡ kept buffers = ap (λ (t : TableState). length t.segments) c.self.view_is
+    let number : c.len.result ≡ kept buffers = c.len.ensures ∙ ap (λ (t : TableState). length t.segments) c.self.view_is
     ∙ sym (number_there c.args.self.now buffers stands owned) in
     let limit : c.self.inside.limits.segments ≡ c.args.self.now.limits.segments = ap (λ (t : TableState). t.limits.segments) c.self.view_is in
     let within = c.if-size-self.false in
@@ -115,11 +115,11 @@ returns-clause-refused c buffers stands =
 
 pub returns-clause-room : goal.returns-clause-room
 returns-clause-room c =
-    let holds : c.self.inside.held ≡ total_size c.args.self.now.segments
-    = c.self.invariant.0.held_is ∙ ap (λ (t : TableState). total_size t.segments) c.self.view_is in
+    let holds : c.held-held.result ≡ total_size c.args.self.now.segments
+    = c.held-held.ensures ∙ ap (λ (t : TableState). total_size t.segments) c.self.view_is in
     let budget : c.self.inside.limits.budget ≡ c.args.self.now.limits.budget = ap (λ (t : TableState). t.limits.budget) c.self.view_is in
     let limit : c.self.inside.limits.segments ≡ c.args.self.now.limits.segments = ap (λ (t : TableState). t.limits.segments) c.self.view_is in
-    let number : length c.self.inside.segments.items ≡ length c.args.self.now.segments = ap (λ (t : TableState). length t.segments) c.self.view_is in
+    let number : c.len.result ≡ length c.args.self.now.segments = c.len.ensures ∙ ap (λ (t : TableState). length t.segments) c.self.view_is in
     let most = c.self.invariant.0.budget in
     let size = c.frame_len-size.ensures.len in
     let within = c.if-size-self.false in
@@ -133,3 +133,6 @@ returns-clause-room c =
       same_unit = same_unit_there c.args.self.now.openings c.args.segment.now.key c.args.segment.now.shape c.args.place c.other_shape.result
           (sym c.requires.place) c.other_shape.ensures (none_since c.other_shape.result c.in_default.not-Some);
     }
+
+pub returns-clause-uncovered : goal.returns-clause-uncovered
+returns-clause-uncovered c = sym c.is_there.ensures ∙ c.if-is_there.false

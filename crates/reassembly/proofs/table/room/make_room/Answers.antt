@@ -1,0 +1,40 @@
+-- The empty entries are closed up, and the runs tell the new indices.
+use Rattle.std.proofs.Common.{◌∙◌, Option, Some, ℕ, length, map, ap, sym, subst, arith}
+use Rattle.std.specs.Prelude.{List}
+use Rattle.std.proofs.lemmas.Bool.{leb-false}
+use Rattle.std.proofs.lemmas.List.{length-map}
+use Rattle.reassembly.specs.declared.runs.Run.{Run}
+use Rattle.reassembly.specs.declared.segment.Segment.{Segment}
+use Rattle.reassembly.specs.Entries.{full, present}
+use Rattle.reassembly.specs.Index.{IsIndexOf}
+use Rattle.reassembly.specs.Runs.{renamed}
+use Rattle.reassembly.proofs.Entries.{present-full}
+use Rattle.reassembly.proofs.Indexing.{closed_index}
+use Rattle.reassembly.proofs.table.room.make_room.Goals as goal
+
+pub returns-then-is_full-clause-present : goal.returns-then-is_full-clause-present
+returns-then-is_full-clause-present c =
+    ap present c.close_up.ensures.entries ∙ present-full (present c.args.segments.now.entries)
+
+pub returns-then-is_full-clause-more : goal.returns-then-is_full-clause-more
+returns-then-is_full-clause-more c =
+    let segments = present c.args.segments.now.entries in
+    omega (
+      arith,
+      ap length c.close_up.ensures.entries,
+      length-map segments (λ (s : Segment). Some s),
+      c.requires.few,
+      c.close_up.ensures.room,
+    )
+
+pub returns-then-is_full-clause-index : goal.returns-then-is_full-clause-index
+returns-then-is_full-clause-index c openings shaped index =
+    let entries = c.args.segments.now.entries in
+    let groups = c.args.runs.now.groups in
+    let named = c.rename.ensures.groups
+    ∙ ap (λ (l : List ℕ). map (map (renamed l)) groups) (c.deref.ensures.value ∙ c.close_up.ensures.names) in
+    subst (λ (l : List (Option Segment)). IsIndexOf l openings c.rename.new.self.groups) (sym c.close_up.ensures.entries)
+    (subst (λ (l : List (List Run)). IsIndexOf (full (present entries)) openings l) (sym named) (closed_index entries openings groups shaped index))
+
+pub returns-else-is_full-clause-more : goal.returns-else-is_full-clause-more
+returns-else-is_full-clause-more c = leb-false _ _ (sym c.is_full.ensures ∙ c.if-is_full.false)
