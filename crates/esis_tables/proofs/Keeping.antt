@@ -1,5 +1,5 @@
 -- What a table keeps after an entry is put in or taken out.
-use Rattle.std.proofs.Common.{◌≡◌, ℕ, ◌<◌, ◌≤◌, min, Bool, true, false, ◌||◌, not, List, [], ◌∷◌, ◌++◌, Some, refl, sym, ap, subst, ◌∙◌, inl, inr, arith, slice_get, slice_set, insert, remove, take, drop}
+use Rattle.std.proofs.Common.{◌≡◌, ℕ, zero, suc, ◌<◌, ◌≤◌, min, Bool, true, false, ◌||◌, not, List, [], ◌∷◌, ◌++◌, Some, refl, sym, ap, subst, ◌∙◌, inl, inr, arith, slice_get, slice_set, insert, remove, take, drop}
 use Rattle.std.proofs.lemmas.Bool.{cases_Bool, cond_both, cond-true, or_parts, or_from, or_left, or_right}
 use Rattle.std.proofs.lemmas.List.{take-append-drop}
 use Rattle.std.specs.List.{AllByRecursion, filter, find, list_any}
@@ -157,9 +157,20 @@ module _ (table : TableState) (kept : List Fact) (keeps : Keeps table kept) wher
 
 -- ---- bounds of the ends and of the numbers
 
-all_insert : {X : Type 0} (P : X → Type 0) (xs : List X) (i : ℕ) (x : X) → P x → AllByRecursion P xs → AllByRecursion P (insert xs i x)
+pub all_insert : {X : Type 0} (P : X → Type 0) (xs : List X) (i : ℕ) (x : X) → P x → AllByRecursion P xs → AllByRecursion P (insert xs i x)
 all_insert P xs i x one all =
     AllByRecursion-put P (take i xs) x (drop i xs) one (subst (AllByRecursion P) (sym (take-append-drop i xs)) all)
+
+pub all_remove : {X : Type 0} (P : X → Type 0) (xs : List X) (i : ℕ) → AllByRecursion P xs → AllByRecursion P (remove xs i)
+all_remove P [] zero all = tt
+all_remove P [] (suc i) all = tt
+all_remove P (x ∷ xs) zero all = all.1
+all_remove P (x ∷ xs) (suc i) all = (all.0, all_remove P xs i all.1)
+
+all_set : {X : Type 0} (P : X → Type 0) (xs : List X) (i : ℕ) (x : X) → P x → AllByRecursion P xs → AllByRecursion P (slice_set xs i x)
+all_set P [] i x one all = tt
+all_set P (y ∷ ys) zero x one all = (one, all.1)
+all_set P (y ∷ ys) (suc i) x one all = (all.0, all_set P ys i x one all.1)
 
 pub bounded_put : (soonest last sooner : ℕ) (entries : List Entry) (at : ℕ) (entry : Entry) → sooner ≡ min soonest entry.until
     → AreBounded soonest last entries → AllByRecursion (λ (other : Entry). other.number < entry.number) entries
@@ -176,4 +187,20 @@ pub bounded_anew : (soonest number : ℕ) (entries : List Entry) → AllByRecurs
 bounded_anew soonest number entries ends above = record {
   end = ends;
   heard = AllByRecursion-implies (λ (entry : Entry). entry.number < number) (λ (entry : Entry). entry.number ≤ number) (λ entry h. omega (arith, h)) entries above;
+}
+
+pub bounded_set : (soonest last sooner : ℕ) (entries : List Entry) (at : ℕ) (entry : Entry) → sooner ≡ min soonest entry.until
+    → AreBounded soonest last entries → AllByRecursion (λ (other : Entry). other.number < entry.number) entries
+    → AreBounded sooner entry.number (slice_set entries at entry)
+bounded_set soonest last sooner entries at entry is bounded above = record {
+  end = all_set (λ (other : Entry). sooner ≤ other.until) entries at entry (omega (arith, is))
+      (AllByRecursion-implies (λ (other : Entry). soonest ≤ other.until) (λ (other : Entry). sooner ≤ other.until) (λ other h. omega (arith, h, is)) entries bounded.end);
+  heard = all_set (λ (other : Entry). other.number ≤ entry.number) entries at entry (omega arith)
+      (AllByRecursion-implies (λ (other : Entry). other.number < entry.number) (λ (other : Entry). other.number ≤ entry.number) (λ other h. omega (arith, h)) entries above);
+}
+
+pub bounded_taken : (soonest last : ℕ) (entries : List Entry) (at : ℕ) → AreBounded soonest last entries → AreBounded soonest last (remove entries at)
+bounded_taken soonest last entries at bounded = record {
+  end = all_remove (λ (other : Entry). soonest ≤ other.until) entries at bounded.end;
+  heard = all_remove (λ (other : Entry). other.number ≤ last) entries at bounded.heard;
 }

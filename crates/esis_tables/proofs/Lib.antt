@@ -5,8 +5,10 @@ pub mod Places
 pub mod Numbers
 pub mod Gaps
 pub mod Keeping
+pub mod Slots
 pub mod Hearing
 pub mod Flushing
+pub mod Walking
 pub mod LookingUp
 pub mod Latest
 pub mod Histories

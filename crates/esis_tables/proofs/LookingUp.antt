@@ -1,7 +1,7 @@
 -- What a look-up in a table answers.
-use Rattle.std.proofs.Common.{◌≡◌, ℕ, ◌<◌, ◌≤◌, Bool, ◌&&◌, ◌||◌, List, [], ◌∷◌, None, Some, refl, sym, ap, ◌∙◌, inl, inr, get_or}
+use Rattle.std.proofs.Common.{◌≡◌, ℕ, ◌<◌, ◌≤◌, Bool, ◌&&◌, ◌||◌, List, [], ◌∷◌, None, Some, refl, sym, ap, ◌∙◌, inl, inr, slice_get}
 use Rattle.std.proofs.lemmas.Bool.{cases_Bool, cond-true, cond-false, lt-ltb, le-ltb}
-use Rattle.std.proofs.lemmas.Option.{get_or_from_slice_get}
+use Rattle.std.proofs.lemmas.Option.{same_Some}
 use Rattle.std.specs.List.{filter, find, list_any}
 use Rattle.std.specs.Option.{option_map}
 use Rattle.esis_tables.specs.declared.table.Entry.{Entry}
@@ -14,19 +14,19 @@ use Rattle.esis_tables.proofs.Keeping.{any_kept, found_in, splits_of}
 use Rattle.esis_tables.proofs.Places.{find_is, find_none, none_has}
 
 -- the entry of a key, read at its place
-read_there : (entries : List Entry) (key : List ℕ) (at : ℕ) (entry : Entry) → IsAt entries key at → entry ≡ get_or entries at entry
+read_there : (entries : List Entry) (key : List ℕ) (at : ℕ) (entry : Entry) → IsAt entries key at → slice_get entries at ≡ Some entry
     → IsRising key_in entries → find (is_of key) entries ≡ Some entry
 read_there entries key at entry place read rising =
-    let same : place.entry ≡ entry = sym (get_or_from_slice_get entries at place.entry entry place.stands_at) ∙ sym read in
+    let same : place.entry ≡ entry = same_Some place.entry entry (sym place.stands_at ∙ read) in
     find_is key_in entries at place.entry key rising place.stands_at place.is_its ∙ ap Some same
 
-pub held_there : (now : ℕ) (entries : List Entry) (key : List ℕ) (at : ℕ) (entry : Entry) → IsAt entries key at → entry ≡ get_or entries at entry
+pub held_there : (now : ℕ) (entries : List Entry) (key : List ℕ) (at : ℕ) (entry : Entry) → IsAt entries key at → slice_get entries at ≡ Some entry
     → now < entry.until → IsRising key_in entries → Some entry.neighbour ≡ neighbour_while_kept now (find (is_of key) entries)
 held_there now entries key at entry place read holds rising =
     sym (ap (neighbour_while_kept now) (read_there entries key at entry place read rising)
     ∙ cond-true (is_kept now entry) (Some entry.neighbour) None (lt-ltb now entry.until holds))
 
-pub ended_there : (now : ℕ) (entries : List Entry) (key : List ℕ) (at : ℕ) (entry : Entry) → IsAt entries key at → entry ≡ get_or entries at entry
+pub ended_there : (now : ℕ) (entries : List Entry) (key : List ℕ) (at : ℕ) (entry : Entry) → IsAt entries key at → slice_get entries at ≡ Some entry
     → entry.until ≤ now → IsRising key_in entries → None ≡ neighbour_while_kept now (find (is_of key) entries)
 ended_there now entries key at entry place read ended rising =
     sym (ap (neighbour_while_kept now) (read_there entries key at entry place read rising)

@@ -1,29 +1,31 @@
 -- Where a key is in a rising list, or would go.
-use Rattle.std.proofs.Common.{◌≡◌, ℕ, zero, suc, ◌+◌, ◌<◌, ◌≤◌, true, false, not, List, [], ◌∷◌, None, Some, Ok, Err, Result, refl, sym, ap, subst, ◌∙◌, arith, length, slice_get, slice_set, get_or, insert, remove, IfOk, IfErr}
+use Rattle.std.proofs.Common.{◌≡◌, ℕ, zero, suc, ◌+◌, ◌<◌, ◌≤◌, true, false, not, List, [], ◌∷◌, None, Some, refl, sym, ap, subst, ◌∙◌, arith, inl, inr, length, slice_get, slice_set, get_or, insert, remove}
 use Rattle.std.proofs.lemmas.Cmp.{nat_list_cmp_total}
-use Rattle.std.proofs.lemmas.List.Sorted.{searchable_from_sorted}
-use Rattle.std.proofs.lemmas.Option.{slice_get-get_or}
+use Rattle.std.proofs.lemmas.Bool.{cases_order}
+use Rattle.std.proofs.lemmas.Option.{get_or_from_slice_get, same_Some, slice_get-get_or, slice_get_within}
 use Rattle.std.specs.Cmp.Lexicographic.{slice_cmp}
-use Rattle.std.specs.List.{AllByRecursion, AllWithin, HoldsAt, filter, find}
-use Rattle.std.specs.List.Sorted.{IsBinarySearchResult, IsSearchInRange, IsSortedByKey}
+use Rattle.std.specs.List.{AllByRecursion, AllWithin, filter, find}
 use Rattle.std.specs.Ordering.{nat_cmp, is_lt, ordering_reverse}
 use Rattle.std.specs.Str.{bytes_eq}
-use Rattle.std.specs.declared.cmp.Ordering.TheVariants.{Equal}
+use Rattle.std.specs.declared.cmp.Ordering.TheVariants.{Less, Equal, Greater}
 use Rattle.esis_tables.specs.declared.table.Entry.{Entry}
 use Rattle.esis_tables.specs.Order.{is_before, put_in, IsRising}
 use Rattle.esis_tables.specs.State.{IsAt, IsGap, key_in}
 use Rattle.nsap.proofs.ClnpBase.SameOctets.{same_from, other-back}
-use Rattle.esis_tables.proofs.Addresses.{before-back, before-other, same_from_equal}
+use Rattle.esis_tables.proofs.Addresses.{before-back, before-other, before-trans, same_from_equal}
 use Rattle.esis_tables.proofs.Rising.{NoneHas, filter_all, put_in-front}
 use Rattle.nsap.proofs.ClnpBase.Lists.{AllByRecursion-slice_get, AllByRecursion-implies}
 
 module _ {X : Type 0} (key : X → List ℕ) where
-  pub sorted_from_rising : (xs : List X) → IsRising key xs → IsSortedByKey key (slice_cmp nat_cmp) xs
-  sorted_from_rising [] rising k d low high = absurd (omega arith)
-  sorted_from_rising (x ∷ []) rising k d low high = absurd (omega arith)
-  sorted_from_rising (x ∷ y ∷ ys) rising zero d low high = before-back (key x) (key y) rising.0.0
-  sorted_from_rising (x ∷ y ∷ ys) rising (suc k) d low high =
-      let e : suc k + 1 ≡ suc (k + 1) = omega arith in rw e (sorted_from_rising (y ∷ ys) rising.1 k d (omega arith) (omega arith))
+  -- each item comes before those behind it
+  pub rising_pair : (xs : List X) (i j : ℕ) (x y : X) → IsRising key xs → i < j → slice_get xs i ≡ Some x → slice_get xs j ≡ Some y
+      → is_before (key x) (key y) ≡ true
+  rising_pair [] i j x y rising less at_i at_j = absurd (cc)
+  rising_pair (z ∷ zs) i zero x y rising less at_i at_j = absurd (omega (arith, less))
+  rising_pair (z ∷ zs) zero (suc j) x y rising less at_i at_j =
+      subst (λ w. is_before (key w) (key y) ≡ true) (same_Some z x at_i)
+      (AllByRecursion-slice_get (λ w. is_before (key z) (key w) ≡ true) zs j y at_j rising.0)
+  rising_pair (z ∷ zs) (suc i) (suc j) x y rising less at_i at_j = rising_pair zs i j x y rising.1 (omega (arith, less)) at_i at_j
 
   -- those behind an item of this key have other keys
   pub others_behind : (x : X) (xs : List X) (k : List ℕ) → IsRising key (x ∷ xs) → bytes_eq (key x) k ≡ true → NoneHas key k xs
@@ -124,28 +126,69 @@ module _ {X : Type 0} (key : X → List ℕ) where
   find_none [] k none = refl
   find_none (x ∷ xs) k none = rw none.0 (find_none xs k none.1)
 
--- what the binary search of a key found
-pub found_at : (entries : List Entry) (key : List ℕ) (r : Result ℕ ℕ) → IsSearchInRange r (length entries)
-    → IsBinarySearchResult (λ entry. slice_cmp nat_cmp (key_in entry) key) entries r → IfOk r (IsAt entries key)
-found_at entries key (Ok i) within found = at_place entries key i within found
-  where
-    at_place : (entries : List Entry) (key : List ℕ) (i : ℕ) → i < length entries
-        → HoldsAt (λ entry. slice_cmp nat_cmp (key_in entry) key ≡ Equal) entries i → IsAt entries key i
-    at_place [] key i within found = absurd (omega arith)
-    at_place (first ∷ rest) key i within found = record {
-      entry = get_or (first ∷ rest) i first;
-      stands_at = slice_get-get_or (first ∷ rest) i first within;
-      is_its = same_from_equal (key_in (get_or (first ∷ rest) i first)) key (found first);
-    }
-found_at entries key (Err i) within found = tt
+-- ---- a search that halves what may hold a key
 
-pub gap_at : (entries : List Entry) (key : List ℕ) (r : Result ℕ ℕ) → IsSearchInRange r (length entries)
-    → IsBinarySearchResult (λ entry. slice_cmp nat_cmp (key_in entry) key) entries r → IsRising key_in entries → IfErr r (IsGap entries key)
-gap_at entries key (Ok i) within found rising = tt
-gap_at entries key (Err i) within found rising =
-    let point = found (searchable_from_sorted nat_list_cmp_total key_in entries key (sorted_from_rising key_in entries rising)) in
+-- what stands before these places comes before a key, what stands behind them after it
+pub record IsBetween (entries : List Entry) (key : List ℕ) (low high : ℕ) : Type 0 where
+  pub before : AllWithin (λ entry. is_before entry.key key ≡ true) entries 0 low
+  pub behind : AllWithin (λ entry. is_before key entry.key ≡ true) entries high (length entries)
+
+pub between_all : (entries : List Entry) (key : List ℕ) → IsBetween entries key 0 (length entries)
+between_all entries key = record {
+  before = λ k d from below. absurd (omega (arith, below));
+  behind = λ k d from below. absurd (omega (arith, from, below));
+}
+
+module _ (entries : List Entry) (key : List ℕ) (low high middle : ℕ) (entry : Entry) (there : slice_get entries middle ≡ Some entry) where
+  -- the entry at a place that is the middle one
+  read_middle : (k : ℕ) (d : Entry) → k ≡ middle → get_or entries k d ≡ entry
+  read_middle k d same = ap (λ (n : ℕ). get_or entries n d) same ∙ get_or_from_slice_get entries middle entry d there
+
+  pub found_middle : slice_cmp nat_cmp entry.key key ≡ Equal → IsAt entries key middle
+  found_middle equal = record { entry = entry; stands_at = there; is_its = same_from_equal entry.key key equal }
+
+  pub above_middle : slice_cmp nat_cmp entry.key key ≡ Less → (IsRising key_in entries → IsBetween entries key low high)
+      → IsRising key_in entries → IsBetween entries key (middle + 1) high
+  above_middle less between rising = record { before = all_before; behind = (between rising).behind }
+    where
+      its : is_before entry.key key ≡ true
+      its = ap is_lt less
+
+      all_before : AllWithin (λ e. is_before e.key key ≡ true) entries 0 (middle + 1)
+      all_before k d from below =
+          elim (cases_order k middle) [
+            | inl same ↦ subst (λ (e : Entry). is_before e.key key ≡ true) (sym (read_middle k d same)) its
+            | inr (inl before) ↦
+                let within : k < length entries = omega (arith, before, slice_get_within entries middle entry there) in
+                before-trans (key_in (get_or entries k d)) entry.key key
+                (rising_pair key_in entries k middle (get_or entries k d) entry rising before (slice_get-get_or entries k d within) there) its
+            | inr (inr behind) ↦ absurd (omega (arith, below, behind))
+          ]
+
+  pub below_middle : slice_cmp nat_cmp entry.key key ≡ Greater → (IsRising key_in entries → IsBetween entries key low high)
+      → IsRising key_in entries → IsBetween entries key low middle
+  below_middle greater between rising = record { before = (between rising).before; behind = all_behind }
+    where
+      its : is_before key entry.key ≡ true
+      its = ap is_lt (nat_list_cmp_total.antisymm key entry.key ∙ ap ordering_reverse greater)
+
+      all_behind : AllWithin (λ e. is_before key e.key ≡ true) entries middle (length entries)
+      all_behind k d from below =
+          elim (cases_order k middle) [
+            | inl same ↦ subst (λ (e : Entry). is_before key e.key ≡ true) (sym (read_middle k d same)) its
+            | inr (inl before) ↦ absurd (omega (arith, from, before))
+            | inr (inr behind) ↦
+                before-trans key entry.key (key_in (get_or entries k d)) its
+                (rising_pair key_in entries middle k entry (get_or entries k d) rising behind there (slice_get-get_or entries k d below))
+          ]
+
+-- nothing is left to be looked at
+pub gap_between : (entries : List Entry) (key : List ℕ) (low high : ℕ) → low ≤ high → high ≤ low → high ≤ length entries
+    → (IsRising key_in entries → IsBetween entries key low high) → IsRising key_in entries → IsGap entries key low
+gap_between entries key low high ordered met within between rising =
+    let same : high ≡ low = omega (arith, ordered, met) in
     record {
-      within = within;
-      before = λ j d low high. ap is_lt (point.0 j d low high);
-      behind = λ j d low high. ap is_lt (nat_list_cmp_total.antisymm key (key_in (get_or entries j d)) ∙ ap ordering_reverse (point.1 j d low high));
+      within = omega (arith, ordered, within);
+      before = (between rising).before;
+      behind = subst (λ (n : ℕ). AllWithin (λ entry. is_before key entry.key ≡ true) entries n (length entries)) same (between rising).behind;
     }

@@ -5,5 +5,6 @@ pub mod Keeps
 pub mod NextHop
 pub mod Numbers
 pub mod Order
+pub mod Slots
 pub mod Stands
 pub mod State

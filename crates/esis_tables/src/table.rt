@@ -12,10 +12,14 @@ ghost use Rattle.esis_tables.specs.Numbers.{KeepTheSame, count_above, is_less_th
 ghost use Rattle.esis_tables.specs.State.{IsAt, IsGap, is_kept, is_kept_at, is_later_than, is_of, key_in, latest_kept, neighbour_in, neighbour_while_kept};
 
 use crate::fact::{Heard, Neighbour};
+use crate::table::slots::Slots;
 use nsap::clnp_base::NoMemory;
 use nsap::{Address, Snpa};
 use std::alloc::Global;
+use std::cmp::Ordering;
 use std::marker::Model;
+
+mod slots;
 
 /// What a table keeps of a key: what was heard of it last.
 #[derive(Clone, Copy)]
@@ -33,8 +37,7 @@ struct Entry {
 /// A contract sees what the table keeps; `Keeps` says which facts these are.
 #[derive(Drop)]
 pub(crate) struct Table {
-    limit: u16,
-    entries: Vec<Entry>,
+    slots: Slots,
     /// A moment before which no time of an entry ends, so that a flush before it looks at none.
     soonest: u64,
     /// The greatest number that was given.
@@ -42,16 +45,13 @@ pub(crate) struct Table {
 }
 
 impl Model for Table {
-    ghost use Rattle.std.specs.Prelude.{◌<◌, ◌≤◌, ◌^◌, vec_capacity, vec_len};
     ghost use Rattle.esis_tables.specs.State.{AreBounded, TableState};
 
     ghost Value = { TableState };
 
-    ghost view = { λ t. record { limit = t.limit; entries = t.entries.items } };
+    ghost view = { λ t. t.slots };
 
-    // Room for all that the limit allows was reserved when the table was made.
-    ghost invariant = { λ t. (vec_len t.entries ≤ t.limit) × (t.limit ≤ vec_capacity t.entries) × (t.limit < 2 ^ 16)
-        × AreBounded t.soonest t.last t.entries.items };
+    ghost invariant = { λ t. AreBounded t.soonest t.last t.slots.entries };
 }
 
 impl Table {
@@ -64,12 +64,9 @@ impl Table {
         ensures limit { IfOk result (λ table. table.limit ≡ limit) }
         ensures empty { IfOk result (λ table. table.entries ≡ []) }
     {
-        let Ok(entries) = Vec::with_capacity(alloc, usize::from(limit)) else {
-            return Err(NoMemory);
-        };
+        let slots = Slots::new(alloc, limit)?;
         Ok(Table {
-            limit,
-            entries,
+            slots,
             soonest: u64::MAX,
             last: 0,
         })
@@ -127,14 +124,22 @@ impl Table {
         ensures full { result ≡ nat_le self.now.limit (length self.now.entries) }
         ensures within { length self.now.entries ≤ self.now.limit }
     {
-        self.entries.len() >= usize::from(self.limit)
+        self.slots.is_full()
     }
 
     /// How many keys the table keeps.
     fn len(&self) -> u16
         ensures { result ≡ length self.now.entries }
     {
-        self.entries.len() as u16
+        self.slots.len()
+    }
+
+    /// The entry at a place.
+    fn at(&self, place: usize) -> &Entry
+        requires { place < length self.now.entries }
+        ensures { slice_get self.now.entries place ≡ Some result.now }
+    {
+        self.slots.at(place)
     }
 
     /// A number above those of all entries.
@@ -149,7 +154,7 @@ impl Table {
         if self.last < u64::MAX {
             return self.last + 1;
         }
-        let number = number_anew(&mut self.entries);
+        let number = number_anew(&mut self.slots);
         self.last = number;
         number
     }
@@ -164,9 +169,7 @@ impl Table {
     {
         self.soonest = self.soonest.min(entry.until);
         self.last = entry.number;
-        let Ok(()) = self.entries.insert(at, entry) else {
-            unreachable!()
-        };
+        self.slots.put(at, entry);
     }
 
     /// Puts an entry in the place of another, with a number above those of all others.
@@ -178,7 +181,7 @@ impl Table {
     {
         self.soonest = self.soonest.min(entry.until);
         self.last = entry.number;
-        self.entries[at] = entry;
+        self.slots.set(at, entry);
     }
 
     /// Takes the entry at a place out.
@@ -188,7 +191,7 @@ impl Table {
         ensures entries { self.new.entries ≡ remove self.old.entries at }
         ensures limit { self.new.limit ≡ self.old.limit }
     {
-        self.entries.remove(at)
+        self.slots.take_out(at)
     }
 
     /// Takes out the entry with the least key of those whose time has ended, and gives the key.
@@ -205,7 +208,7 @@ impl Table {
             return None;
         }
         let Some(at) = self.first_ended(now) else {
-            self.soonest = soonest_end(&self.entries);
+            self.soonest = soonest_end(&self.slots);
             return None;
         };
         Some(self.take_out(at).key)
@@ -215,7 +218,12 @@ impl Table {
     fn first_ended(&self, now: u64) -> Option<usize>
         ensures { result ≡ position_from (λ entry. not (is_kept now entry)) 0 self.now.entries }
     {
-        self.entries.iter().position(|entry| entry.until <= now)
+        for at in 0..usize::from(self.len()) {
+            if self.at(at).until <= now {
+                return Some(at);
+            }
+        }
+        None
     }
 
     /// Where the system of a key is reached, while what was heard of it holds.
@@ -226,7 +234,7 @@ impl Table {
         let Ok(at) = self.find(key) else {
             return None;
         };
-        let entry = self.entries[at];
+        let entry = self.at(at);
         if now < entry.until {
             Some(entry.neighbour)
         } else {
@@ -239,7 +247,8 @@ impl Table {
         ensures { result ≡ option_map neighbour_in (latest_kept now None self.now.entries) }
     {
         let mut latest: Option<Entry> = None;
-        for entry in &self.entries {
+        for at in 0..usize::from(self.len()) {
+            let entry = self.at(at);
             if now < entry.until && is_later(entry, &latest) {
                 latest = Some(*entry);
             }
@@ -251,9 +260,13 @@ impl Table {
     pub(crate) fn is_held_at(&self, now: u64, snpa: &Snpa) -> bool
         ensures { result ≡ list_any (is_kept_at now snpa.now) self.now.entries }
     {
-        self.entries
-            .iter()
-            .any(|entry| now < entry.until && entry.neighbour.snpa == *snpa)
+        for at in 0..usize::from(self.len()) {
+            let entry = self.at(at);
+            if now < entry.until && entry.neighbour.snpa == *snpa {
+                return true;
+            }
+        }
+        false
     }
 
     /// Takes all entries out.
@@ -261,7 +274,7 @@ impl Table {
         ensures limit { self.new.limit ≡ self.old.limit }
         ensures empty { self.new.entries ≡ [] }
     {
-        self.entries.clear();
+        self.slots.clear();
     }
 
     /// The place of the entry of a key, or else that where it would go.
@@ -270,7 +283,17 @@ impl Table {
         ensures found { IfOk result (IsAt self.now.entries key.now) }
         ensures absent { IsRising key_in self.now.entries → IfErr result (IsGap self.now.entries key.now) }
     {
-        self.entries.binary_search_by_key(key, |entry| entry.key)
+        let mut low = 0;
+        let mut high = usize::from(self.len());
+        while low < high {
+            let middle = low + (high - low) / 2;
+            match self.at(middle).key.cmp(key) {
+                Ordering::Less => low = middle + 1,
+                Ordering::Equal => return Ok(middle),
+                Ordering::Greater => high = middle,
+            }
+        }
+        Err(low)
     }
 }
 
@@ -293,45 +316,48 @@ fn is_later(entry: &Entry, other: &Option<Entry>) -> bool
 }
 
 /// A moment before which no time of some entries ends.
-fn soonest_end(entries: &[Entry]) -> u64
-    ensures { AllByRecursion (λ entry. result ≤ entry.until) entries.now }
+fn soonest_end(slots: &Slots) -> u64
+    ensures { AllByRecursion (λ entry. result ≤ entry.until) slots.now.entries }
 {
     let mut soonest = u64::MAX;
-    for entry in entries {
+    for at in 0..usize::from(slots.len()) {
+        let entry = slots.at(at);
         soonest = soonest.min(entry.until);
     }
     soonest
 }
 
 /// Numbers entries from 1 on, in the order of their numbers, and gives the next number.
-fn number_anew(entries: &mut [Entry]) -> u64
-    requires { length entries.old < 2 ^ 16 }
-    ensures same { KeepTheSame entries.old entries.new }
-    ensures above { AllByRecursion (λ entry. entry.number < result) entries.new }
+fn number_anew(slots: &mut Slots) -> u64
+    ensures same { KeepTheSame slots.old.entries slots.new.entries }
+    ensures above { AllByRecursion (λ entry. entry.number < result) slots.new.entries }
+    ensures limit { slots.new.limit ≡ slots.old.limit }
 {
-    let count = entries.len();
+    let count = slots.len();
     for number in 0..count {
-        close_gap(entries, number as u64);
+        close_gap(slots, u64::from(number));
     }
-    count as u64 + 1
+    u64::from(count) + 1
 }
 
 /// Lowers the numbers above a number, so that the least of them is the next one.
-fn close_gap(entries: &mut [Entry], number: u64)
-    ensures same { KeepTheSame entries.old entries.new }
-    ensures fewer { count_above (number + 1) entries.new ≤ count_above number entries.old - 1 }
+fn close_gap(slots: &mut Slots, number: u64)
+    ensures same { KeepTheSame slots.old.entries slots.new.entries }
+    ensures fewer { count_above (number + 1) slots.new.entries ≤ count_above number slots.old.entries - 1 }
+    ensures limit { slots.new.limit ≡ slots.old.limit }
 {
-    if let Some(least) = least_above(entries, number) {
-        lower(entries, number, least - number - 1);
+    if let Some(least) = least_above(slots, number) {
+        lower(slots, number, least - number - 1);
     }
 }
 
 /// The least number above this one.
-fn least_above(entries: &[Entry], number: u64) -> Option<u64>
-    ensures { result ≡ least_above number None entries.now }
+fn least_above(slots: &Slots, number: u64) -> Option<u64>
+    ensures { result ≡ least_above number None slots.now.entries }
 {
     let mut least: Option<u64> = None;
-    for entry in entries {
+    for at in 0..usize::from(slots.len()) {
+        let entry = slots.at(at);
         if number < entry.number && is_less(entry.number, least) {
             least = Some(entry.number);
         }
@@ -350,11 +376,13 @@ fn is_less(number: u64, other: Option<u64>) -> bool
 }
 
 /// Lets the numbers above this one go down by so much.
-fn lower(entries: &mut [Entry], above: u64, by: u64)
-    ensures { entries.new ≡ map (lowered above by) entries.old }
+fn lower(slots: &mut Slots, above: u64, by: u64)
+    ensures entries { slots.new.entries ≡ map (lowered above by) slots.old.entries }
+    ensures limit { slots.new.limit ≡ slots.old.limit }
 {
-    for entry in entries.iter_mut() {
-        *entry = lowered(*entry, above, by);
+    for at in 0..usize::from(slots.len()) {
+        let entry = lowered(*slots.at(at), above, by);
+        slots.set(at, entry);
     }
 }
 

@@ -1,12 +1,26 @@
 -- One entry more is lowered.
-use Rattle.std.proofs.Common.{◌<◌, length, arith}
+use Rattle.std.proofs.Common.{◌<◌, ◌∙◌, length, arith, sym}
 use Rattle.std.proofs.lemmas.List.Edits.{map_over_more}
-use Rattle.std.proofs.lemmas.List.{get_or_default}
+use Rattle.std.proofs.lemmas.Option.{get_or_from_slice_get}
 use Rattle.esis_tables.specs.Numbers.{lowered}
+use Rattle.esis_tables.proofs.Walking.{as_many}
 use Rattle.esis_tables.proofs.table.lower.Goals as goal
 
-pub loop-entry-preserved : goal.loop-entry-preserved
-loop-entry-preserved c =
-    let within : c.loop-entry.entry-index < length c.args.entries.now = c.loop-entry-test.true in
-    rw c.lowered.ensures (map_over_more (lowered c.args.above c.args.by) c.args.entries.now c.loop-entry.entries c.loop-entry.entry-index _ within c.loop-entry.invariant
-    (get_or_default c.loop-entry.entries c.loop-entry.entry-index _ _ (omega (arith, c.loop-entry.auto.entries))))
+pub at-requires : goal.at-requires
+at-requires c =
+    omega (
+      arith,
+      c.loop-at-test.true,
+      c.len.ensures,
+      as_many (lowered c.args.above c.args.by) c.args.slots.now.entries c.loop-at.slots.entries c.loop-at.at c.loop-at.invariant.0,
+    )
+
+pub loop-at-preserved : goal.loop-at-preserved
+loop-at-preserved c =
+    let l = c.loop-at in
+    let within : l.at < length c.args.slots.now.entries = omega (arith, c.loop-at-test.true, c.len.ensures) in (
+      c.set.ensures.entries
+          ∙ rw c.lowered-entry.ensures (map_over_more (lowered c.args.above c.args.by) c.args.slots.now.entries l.slots.entries l.at c.at.result.now within l.invariant.0
+          (sym (get_or_from_slice_get l.slots.entries l.at c.at.result.now c.at.result.now c.at.ensures))),
+      c.set.ensures.limit ∙ l.invariant.1,
+    )

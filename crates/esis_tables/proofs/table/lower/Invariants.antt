@@ -3,5 +3,7 @@ use Rattle.std.proofs.Common.{◌≡◌, ◌++◌, map, take, drop}
 use Rattle.esis_tables.specs.Numbers.{lowered}
 use Rattle.esis_tables.proofs.table.lower.Given as goal
 
-abbrev pub invariant-loop-entry : goal.invariant-loop-entry
-invariant-loop-entry l = l.entries ≡ map (lowered l.above l.by) (take l.entry-index l.initial.entries) ++ drop l.entry-index l.initial.entries
+abbrev pub invariant-loop-at : goal.invariant-loop-at
+invariant-loop-at l =
+    (l.slots.entries ≡ map (lowered l.above l.by) (take l.at l.initial.slots.entries) ++ drop l.at l.initial.slots.entries)
+    × (l.slots.limit ≡ l.initial.slots.limit)

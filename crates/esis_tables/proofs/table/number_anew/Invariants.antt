@@ -1,8 +1,10 @@
 -- So many numbers, from the first on, have no gaps before them.
-use Rattle.std.proofs.Common.{◌-◌, ◌≤◌, length}
+use Rattle.std.proofs.Common.{◌≡◌, ◌-◌, ◌≤◌, length}
 use Rattle.esis_tables.specs.Numbers.{KeepTheSame, count_above}
 use Rattle.esis_tables.proofs.table.number_anew.Given as goal
 
 abbrev pub invariant-loop-number : goal.invariant-loop-number
 invariant-loop-number l =
-    KeepTheSame l.initial.entries l.entries × (count_above l.number l.entries ≤ length l.initial.entries - l.number)
+    KeepTheSame l.initial.slots.entries l.slots.entries
+    × (count_above l.number l.slots.entries ≤ length l.initial.slots.entries - l.number)
+    × (l.slots.limit ≡ l.initial.slots.limit)

@@ -8,7 +8,7 @@ use Rattle.esis_tables.proofs.table.Table.flush.Goals as goal
 pub returns-then-now-self-clause-flushed : goal.returns-then-now-self-clause-flushed
 returns-then-now-self-clause-flushed c kept keeps =
     none_ended_before c.args.now c.self.inside.soonest c.args.self.now kept keeps c.if-now-self.true
-    (subst (λ (t : TableState). AllByRecursion (λ (entry : Entry). c.self.inside.soonest ≤ entry.until) t.entries) c.self.view_is c.self.invariant.3.end)
+    (subst (λ (t : TableState). AllByRecursion (λ (entry : Entry). c.self.inside.soonest ≤ entry.until) t.entries) c.self.view_is c.self.invariant.end)
 
 pub returns-in_default-clause-flushed : goal.returns-in_default-clause-flushed
 returns-in_default-clause-flushed c kept keeps = none_ended c.args.now c.args.self.now kept keeps (sym c.in_default.ensures)

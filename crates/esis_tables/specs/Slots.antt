@@ -1,0 +1,20 @@
+-- Entries, each in a slot of its own.
+use Rattle.std.specs.Prelude.{◌≡◌, ◌≢◌, ℕ, List, [], ◌∷◌, length}
+use Rattle.std.specs.List.{AllByRecursion, filter_map}
+use Rattle.slab.specs.Slab.{ContainsKey, Slab, get, slab_len}
+use Rattle.esis_tables.specs.declared.table.Entry.{Entry}
+
+-- the entries in these slots
+abbrev pub entries_in : Slab Entry → List ℕ → List Entry
+entries_in entries slots = filter_map (get entries) slots
+
+-- no slot stands twice
+abbrev pub AreApart : List ℕ → Type 0
+AreApart [] = Unit {0}
+AreApart (slot ∷ others) = AllByRecursion (λ other. other ≢ slot) others × AreApart others
+
+-- The slots that are taken are these, each once.
+pub record AreTaken (entries : Slab Entry) (slots : List ℕ) : Type 0 where
+  pub taken : AllByRecursion (ContainsKey entries) slots
+  pub apart : AreApart slots
+  pub number : slab_len entries ≡ length slots

@@ -1,0 +1,129 @@
+//! Entries that stay where they are.
+ghost use Rattle.std.specs.Prelude.{◌≡◌, ◌<◌, ◌≤◌, [], nat_le, insert, length, remove, IfOk, Some, slice_get, slice_set};
+
+use super::Entry;
+use nsap::clnp_base::NoMemory;
+use slab::Slab;
+use std::alloc::Global;
+use std::marker::Model;
+
+/// The entries of a table, in their order.
+///
+/// Each stays in its slot until it is taken out: where one comes or goes, the numbers of the slots behind it move, and no entry.
+/// A contract sees the entries in their order, and how many there may be.
+#[derive(Drop)]
+pub(super) struct Slots {
+    limit: u16,
+    entries: Slab<Entry>,
+    /// The slots that are taken, in the order of their entries.
+    order: Vec<usize>,
+}
+
+impl Model for Slots {
+    ghost use Rattle.std.specs.Prelude.{◌<◌, ◌≤◌, ◌^◌, length, vec_capacity};
+    ghost use Rattle.esis_tables.specs.Slots.{AreTaken, entries_in};
+    ghost use Rattle.esis_tables.specs.State.{TableState};
+
+    ghost Value = { TableState };
+
+    ghost view = { λ s. record { limit = s.limit; entries = entries_in s.entries s.order.items } };
+
+    // Room for all that the limit allows was reserved when the slots were made.
+    ghost invariant = { λ s. AreTaken s.entries s.order.items × (length s.order.items ≤ s.limit) × (s.limit < 2 ^ 16)
+        × (s.limit ≤ s.entries.capacity) × (s.limit ≤ vec_capacity s.order) };
+}
+
+impl Slots {
+    /// No entries, and room for as many as there may be.
+    ///
+    /// # Errors
+    ///
+    /// `NoMemory`.
+    pub(super) fn new(alloc: Global, limit: u16) -> Result<Slots, NoMemory>
+        ensures limit { IfOk result (λ slots. slots.limit ≡ limit) }
+        ensures empty { IfOk result (λ slots. slots.entries ≡ []) }
+    {
+        let Ok(entries) = Slab::with_capacity(alloc, usize::from(limit)) else {
+            return Err(NoMemory);
+        };
+        let Ok(order) = Vec::with_capacity(alloc, usize::from(limit)) else {
+            return Err(NoMemory);
+        };
+        Ok(Slots {
+            limit,
+            entries,
+            order,
+        })
+    }
+
+    /// How many entries there are.
+    pub(super) fn len(&self) -> u16
+        ensures { result ≡ length self.now.entries }
+    {
+        self.order.len() as u16
+    }
+
+    /// Whether there are as many as there may be.
+    pub(super) fn is_full(&self) -> bool
+        ensures full { result ≡ nat_le self.now.limit (length self.now.entries) }
+        ensures within { length self.now.entries ≤ self.now.limit }
+    {
+        self.order.len() >= usize::from(self.limit)
+    }
+
+    /// The entry at a place.
+    pub(super) fn at(&self, place: usize) -> &Entry
+        requires { place < length self.now.entries }
+        ensures { slice_get self.now.entries place ≡ Some result.now }
+    {
+        let slot = self.order[place];
+        let Some(entry) = self.entries.get(slot) else {
+            unreachable!()
+        };
+        entry
+    }
+
+    /// Puts an entry in at a place.
+    pub(super) fn put(&mut self, place: usize, entry: Entry)
+        requires place { place ≤ length self.old.entries }
+        requires room { length self.old.entries < self.old.limit }
+        ensures entries { self.new.entries ≡ insert self.old.entries place entry }
+        ensures limit { self.new.limit ≡ self.old.limit }
+    {
+        let slot = self.entries.insert_reserved(entry);
+        let Ok(()) = self.order.insert(place, slot) else {
+            unreachable!()
+        };
+    }
+
+    /// Puts an entry in the place of another.
+    pub(super) fn set(&mut self, place: usize, entry: Entry)
+        requires { place < length self.old.entries }
+        ensures entries { self.new.entries ≡ slice_set self.old.entries place entry }
+        ensures limit { self.new.limit ≡ self.old.limit }
+    {
+        let slot = self.order[place];
+        self.entries.remove(slot);
+        self.order[place] = self.entries.insert_reserved(entry);
+    }
+
+    /// Takes the entry at a place out.
+    pub(super) fn take_out(&mut self, place: usize) -> Entry
+        requires { place < length self.old.entries }
+        ensures entry { slice_get self.old.entries place ≡ Some result }
+        ensures entries { self.new.entries ≡ remove self.old.entries place }
+        ensures limit { self.new.limit ≡ self.old.limit }
+    {
+        let slot = self.order.remove(place);
+        self.entries.remove(slot)
+    }
+
+    /// Takes all out.
+    pub(super) fn clear(&mut self)
+        ensures empty { self.new.entries ≡ [] }
+        ensures limit { self.new.limit ≡ self.old.limit }
+    {
+        self.entries.clear();
+        self.order.clear();
+    }
+}
