@@ -16,15 +16,27 @@ echo proof >"$tree/crates/leaf/proofs/Lib.antt"
 
 cat >"$work/bin/rt" <<'RT'
 #!/usr/bin/env bash
-# `rt all check` and `rt run`, in crates/clnp_tool, and `rt version`.
+# `rt lib`, in the folder of a crate below the program, `rt run`, in crates/clnp_tool, and `rt version`.
 if [ "$1" = version ]; then
     echo "a stand-in"
     exit 0
 fi
-if [ "$1" = all ]; then
-    printf '== leaf\n== clnp_tool\n== summary\n'
+if [ "$1" = lib ]; then
+    mkdir -p out/rlib && echo "${PWD##*/}" >out/rlib/name
+    if [ "$(cat proofs/Lib.antt 2>/dev/null)" = slow ]; then
+        touch out/kept "$SLOW" && sleep 20
+    fi
+    if [ "$(cat proofs/Lib.antt 2>/dev/null)" = wrong ]; then
+        echo "this isn't proved"
+        exit 1
+    fi
     exit 0
 fi
+for name in $(sed -n 's/:.*//p' ../../crates.txt); do
+    if [ "$name" != clnp_tool ] && [ "$(cat "../$name/out/rlib/name")" != "$name" ]; then
+        exit 1
+    fi
+done
 echo built >>../../built
 mkdir -p out
 printf '#!/bin/sh\necho "%s"\n' "$(cat ../*/src/*.rt ../*/specs/*.antt | tr '\n' ' ')" >out/clnp_tool
@@ -90,6 +102,36 @@ touch "$tree/crates/clnp_tool/out/clnp_tool" && rm "$tree/crates/clnp_tool/out/"
 want "no stamp, and no source changed since" 13
 rm "$tree/crates/clnp_tool/out/"clnp_stamp.* && echo another >"$tree/$code/lib.rt"
 want "no stamp, and a source that changed" 14
+# Where a crate isn't proved no program is built or run, and where a build is stopped it goes on with what was kept.
+echo broken >"$tree/$code/lib.rt" && echo wrong >"$tree/crates/leaf/proofs/Lib.antt"
+said="$("$tree/clnp" 2>"$work/errors")"
+status=$?
+if [ "$status" -ne 70 ] || [ -n "$said" ] || ! grep -q "this isn't proved" "$work/errors"; then
+    echo "with a crate that isn't proved: said '$said', ended with $status" >&2
+    failed=1
+fi
+echo slow >"$tree/crates/leaf/proofs/Lib.antt"
+SLOW="$work/slow" "$tree/clnp" >"$work/said" 2>"$work/errors" &
+process=$!
+for _ in $(seq 300); do
+    [ ! -e "$work/slow" ] || break
+    sleep 0.1
+done
+kill "$process" && wait "$process"
+status=$?
+if [ "$status" -ne 130 ] || [ -s "$work/said" ] || [ ! -e "$tree/crates/leaf/out/kept" ] || [ -e "$tree/crates/clnp_tool/out/benches" ]; then
+    echo "a build that is stopped: said '$(cat "$work/said")', ended with $status" >&2
+    failed=1
+fi
+echo proof >"$tree/crates/leaf/proofs/Lib.antt"
+want "behind a build that was stopped" 15
+mkdir -p "$tree/crates/clnp_tool/out/benches/1/crates/leaf" && touch "$tree/crates/leaf/out/left"
+mv "$tree/crates/leaf/out" "$tree/crates/clnp_tool/out/benches/1/crates/leaf/out" && echo anew >"$tree/$code/lib.rt"
+want "behind a build that was killed" 16
+if [ ! -e "$tree/crates/leaf/out/left" ]; then
+    echo "behind a build that was killed: what it kept is lost" >&2
+    failed=1
+fi
 # A program whose sources changed isn't run either where it can't be built.
 rm "$work/bin/rt" && echo last >"$tree/$code/lib.rt"
 if command -v rt >/dev/null; then
