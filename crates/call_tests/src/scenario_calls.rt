@@ -1,5 +1,5 @@
 use scenario::clnp_base::lines;
-use scenario::clnp_plan::{Limits, PortConfig, Role, SystemConfig};
+use scenario::system_plan::{Limits, PortConfig, Role, SystemConfig};
 use scenario::{
     Body, Event, Scenario, ScenarioRefusal, Subnet, from_seed, migrate, read, read_for_run,
     read_version_1, write,

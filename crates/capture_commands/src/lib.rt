@@ -8,7 +8,4 @@ pub mod laws;
 pub mod pack;
 pub mod show;
 
-pub use capture_text;
-pub use captures;
 pub use command_base;
-pub use command_base::clnp_base;

@@ -14,7 +14,7 @@ mod top;
 pub use capture_commands::command_base;
 pub use clnp_machine::clnp_base;
 pub use clnp_world;
-pub use clnp_world::scenario;
+pub use clnp_world::scenarios;
 pub use command::{Command, StreamedCommand, WholeCommand, link_places};
 pub use command_base::Status;
 pub use live_commands::link_board;

@@ -7,7 +7,7 @@ ghost use Rattle.clnp_commands.specs.Tasks.{migrate_task};
 use crate::sim::few_lines;
 use capture_commands::command_base::Status;
 use clnp_machine::clnp_base::{Sink, write_all};
-use clnp_world::scenario::ScenarioRefusal;
+use clnp_world::scenarios::ScenarioRefusal;
 use std::alloc::Global;
 
 /// Writes the text of a scenario of version 1 in version 2. Nothing is written before the whole text was accepted.
@@ -18,7 +18,7 @@ pub(crate) fn migrate<K: Sink>(alloc: Global, text: &[u8], sink: &mut K) -> Stat
     ensures failed { result ≡ Status.WriteFault → Rose (K.faults sink.old) (K.faults sink.new) }
 {
     few_lines();
-    match clnp_world::scenario::migrate(alloc, text) {
+    match clnp_world::scenarios::migrate(alloc, text) {
         Ok(migrated) => match write_all(sink, migrated.as_slice()) {
             Ok(()) => Status::Done,
             Err(_) => Status::WriteFault,

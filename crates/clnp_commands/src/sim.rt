@@ -13,8 +13,8 @@ ghost use Rattle.clnp_commands.specs.Time.{HasTime};
 
 use capture_commands::command_base::{Status, flush, flush_full};
 use clnp_machine::clnp_base::{Failed, Sink};
-use clnp_machine::clnp_plan::Telling;
-use clnp_world::scenario::{Event, Move, Scenario, ScenarioRefusal};
+use clnp_machine::system_plan::Telling;
+use clnp_world::scenarios::{Event, Move, Scenario, ScenarioRefusal};
 use clnp_world::{World, WorldRefusal};
 use std::alloc::Global;
 
@@ -26,8 +26,8 @@ pub(crate) fn sim<K: Sink>(alloc: Global, telling: Telling, text: &[u8], sink: &
     ensures failed { result ≡ Status.WriteFault → Rose (K.faults sink.old) (K.faults sink.new) }
 {
     few_lines();
-    clnp_world::scenario::laws::accepted_is_fit();
-    match clnp_world::scenario::read(alloc, text) {
+    clnp_world::scenarios::laws::accepted_is_fit();
+    match clnp_world::scenarios::read(alloc, text) {
         Ok(scenario) => match play(alloc, &scenario, telling, sink) {
             Ok(()) => Status::Done,
             Err(Stop::WorldFull { octets }) => Status::WorldFull { octets },

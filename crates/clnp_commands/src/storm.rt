@@ -14,7 +14,7 @@ ghost use Rattle.clnp_commands.specs.Counting.{CountOf, SumOf};
 
 use capture_commands::command_base::{Status, push_number};
 use clnp_machine::clnp_base::{NoMemory, Sink, push, write_all};
-use clnp_world::scenario::{Event, Move, Scenario, from_seed};
+use clnp_world::scenarios::{Event, Move, Scenario, from_seed};
 use clnp_world::{Counts, World, WorldRefusal};
 use std::alloc::Global;
 

@@ -27,9 +27,9 @@ use capture_commands::command_base::Status;
 use capture_commands::pack::pack;
 use capture_commands::show::show;
 use clnp_machine::clnp_base::{Clock, ReadStop, Sink, Source, read_all};
-use clnp_machine::clnp_plan::Telling;
+use clnp_machine::system_plan::Telling;
 use clnp_safety::laws::runs_are_safe;
-use clnp_world::scenario::laws;
+use clnp_world::scenarios::laws;
 use fair_commands::reassemble;
 use live_commands::link_board::Ports;
 use live_commands::run_system;
@@ -161,8 +161,8 @@ fn texts_agree()
     capture_commands::laws::what_is_packed_is_shown_again();
     pcap_commands::laws::lines_make_the_frames_again();
     pcap_commands::laws::a_made_file_gives_its_lines_again();
-    fair_commands::fair_text::laws::shares_are_fair();
-    clnp_safety::clnp_network::laws::texts_of_version_1_migrate();
+    fair_commands::shares_are_fair();
+    clnp_safety::texts_of_version_1_migrate();
 }
 
 /// Reads the input of a command that reads one.

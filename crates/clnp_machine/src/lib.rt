@@ -6,12 +6,26 @@ pub mod attaching;
 pub mod laws;
 pub mod way;
 
-pub use clnp_plan;
 pub use clnp_plan::{
     clnp_base, clnp_options, clnp_views, esis_tables, forwarding, nsap, pdu_header,
 };
 pub use echo;
 pub use error_reports;
-pub use esis_pdus;
 pub use reassembly;
 pub use segmenter;
+
+/// What a scenario says of a system, what a system is asked and gives out, and the lines that tell of it.
+pub mod system_plan {
+    pub use clnp_plan::{
+        Ask, Limits, Note, Output, PortConfig, Role, SendRefusal, Sending, SystemConfig, Telling,
+        Why, injection_text, journal_text, late_text, loss_text, nobody_text, push_end,
+        receipt_text, resize_text, transmission_text, void_text,
+    };
+}
+
+/// ES-IS PDUs.
+pub mod esis {
+    pub use esis_pdus::{
+        AddressList, EsisBody, EsisPdu, EsisRefusal, HelloRefusal, decode, esh, ish, rd,
+    };
+}

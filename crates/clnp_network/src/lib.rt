@@ -3,4 +3,9 @@
 
 pub mod laws;
 
-pub use scenario;
+/// Scenarios: what a text says, its events and their moves.
+pub mod scenarios {
+    pub use scenario::{
+        Body, Code, Event, Move, Scenario, ScenarioRefusal, Subnet, from_seed, laws, migrate, read,
+    };
+}

@@ -9,5 +9,5 @@ mod pages;
 
 pub use call::{end, end_without_link, run};
 pub use clnp_commands;
-pub use clnp_commands::{clnp_base, clnp_world, scenario};
+pub use clnp_commands::{clnp_base, clnp_world, scenarios};
 pub use fault::Fault;

@@ -4,4 +4,4 @@
 
 pub mod laws;
 
-pub use clnp_network;
+pub use clnp_network::laws::texts_of_version_1_migrate;

@@ -13,9 +13,9 @@ ghost use Rattle.clnp_systems.specs.declared.system.System.TheVariants as varian
 ghost use Rattle.clnp_systems.specs.Stands.{Stands, configuration_of, entity_of, role_of};
 
 use clnp_machine::clnp_base::NoMemory;
-use clnp_machine::clnp_plan::{Limits, Output, PortConfig, Role, SystemConfig};
 use clnp_machine::forwarding::Route;
 use clnp_machine::nsap::Prefix;
+use clnp_machine::system_plan::{Limits, Output, PortConfig, Role, SystemConfig};
 use end_system::{EndSystem, Input};
 use router::Router;
 use std::alloc::Global;

@@ -7,7 +7,7 @@ mod lines;
 mod network;
 mod world;
 
-pub use clnp_network::scenario;
-pub use clnp_network::scenario::Move;
+pub use clnp_network::scenarios;
+pub use clnp_network::scenarios::Move;
 pub use lines::Counts;
 pub use world::{World, WorldRefusal};

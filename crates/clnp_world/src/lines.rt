@@ -4,11 +4,11 @@ ghost use Rattle.clnp_machine.specs.ClnpPlan.Journal.{ForNobody, Injected, Late,
 ghost use Rattle.clnp_world.specs.Lines.{Gains, IsTooGreat, both, no_lines, tally};
 
 use clnp_machine::clnp_base::NoMemory;
-use clnp_machine::clnp_plan::{
+use clnp_machine::nsap::{Snpa, Target};
+use clnp_machine::system_plan::{
     Note, Telling, injection_text, journal_text, late_text, loss_text, nobody_text, receipt_text,
     resize_text, transmission_text, void_text,
 };
-use clnp_machine::nsap::{Snpa, Target};
 use std::alloc::Global;
 
 /// How many lines of some kinds a journal has.

@@ -7,7 +7,7 @@ ghost use Rattle.clnp_world.specs.Stands.{StandEach};
 
 use crate::copy::FrameCopy;
 use clnp_machine::clnp_base::NoMemory;
-use clnp_network::scenario::{Scenario, Subnet};
+use clnp_network::scenarios::{Scenario, Subnet};
 use clnp_systems::System;
 use std::alloc::Global;
 

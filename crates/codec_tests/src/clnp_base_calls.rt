@@ -1,4 +1,4 @@
-use segmenter::clnp_base::{
+use captures::clnp_base::{
     Failed, MemSink, MemSource, NoMemory, Octets, ReadStop, Sink, Source, StdSink, StdSource,
     decimal, push, push_decimal, push_hex, push_unhex, read_all, write_all,
 };

@@ -1,8 +1,8 @@
 //! An error report that is known from elsewhere, made and read.
 
+use captures::esis_pdus::nsap::Address;
+use captures::esis_pdus::pdu_header::decode;
 use error_reports::{Told, read, report};
-use segmenter::nsap::Address;
-use segmenter::pdu_header::decode;
 
 /// A data PDU of lifetime 1 from 47002702 to 47002701, with a header of 19 octets.
 const FRAME: &[u8] =

@@ -1,6 +1,6 @@
 //! ES-IS PDUs. All have the holding time 120.
+use captures::esis_pdus::nsap::{Address, Snpa};
 use captures::esis_pdus::{HelloRefusal, decode, encode, esh, ish, rd};
-use segmenter::nsap::{Address, Snpa};
 use std::alloc::Global;
 
 /// The end system hello of the address 47002702.

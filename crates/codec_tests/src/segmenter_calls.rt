@@ -3,8 +3,8 @@ ghost use Rattle.std.specs.Prelude.{◌≤◌, IfSome};
 ghost use Rattle.std.specs.List.{AllByRecursion};
 ghost use Rattle.segmenter.specs.Left.{IsCutOf};
 
+use captures::esis_pdus::pdu_header::{Header, decode};
 use segmenter::Cuts;
-use segmenter::pdu_header::{Header, decode};
 
 /// The sealed header of a unit of 3,000 octets of data.
 const UNIT: &[u8; 25] =

@@ -14,10 +14,10 @@ ghost use Rattle.esis_entity.specs.Does.{StaysInFront};
 ghost use Rattle.esis_entity.specs.Stands.{Stands, StandsSince};
 
 use clnp_machine::clnp_base::NoMemory;
-use clnp_machine::clnp_plan::{Output, SystemConfig};
-use clnp_machine::esis_pdus::EsisPdu;
+use clnp_machine::esis::EsisPdu;
 use clnp_machine::esis_tables::{EsisLimits, Neighbour, Tables};
 use clnp_machine::nsap::{Address, Target};
+use clnp_machine::system_plan::{Output, SystemConfig};
 use hellos::hello;
 use output::send;
 use std::alloc::Global;

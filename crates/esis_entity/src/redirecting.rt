@@ -8,10 +8,10 @@ ghost use Rattle.clnp_machine.specs.System.{SystemState, SendsEsis};
 
 use crate::entity::output::send;
 use clnp_machine::clnp_base::NoMemory;
-use clnp_machine::clnp_plan::{Output, SystemConfig};
-use clnp_machine::esis_pdus::rd;
+use clnp_machine::esis::rd;
 use clnp_machine::esis_tables::Neighbour;
 use clnp_machine::nsap::{Address, Snpa, Target};
+use clnp_machine::system_plan::{Output, SystemConfig};
 
 /// A system tells another, at a place of its own, of the better way to an address: the next system's address on that subnetwork,
 /// and its title where it isn't the system of the address itself. The redirect holds for as long as the system's configuration

@@ -4,6 +4,5 @@
 mod frame;
 mod joining;
 
-pub use command_base;
-pub use fair_text;
+pub use fair_text::laws::shares_are_fair;
 pub use joining::reassemble;

@@ -13,6 +13,5 @@ pub use capture::Capture;
 pub use fair_reassembly;
 pub use fault::CaptureRefusal;
 pub use reader::read;
-pub use scenario;
-pub use scenario::{clnp_base, clnp_views, nsap, pdu_header};
+pub use scenario::{clnp_base, nsap, pdu_header};
 pub use told::{Told, push_end, push_told};

@@ -3,7 +3,5 @@
 
 mod run;
 
-pub use command_base;
 pub use link_board;
-pub use live_node;
 pub use run::run_system;

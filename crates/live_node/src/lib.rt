@@ -9,5 +9,4 @@ mod outputs;
 mod run;
 mod turns;
 
-pub use live_model;
 pub use run::{RunStop, run_node};

@@ -9,7 +9,7 @@ ghost use Rattle.live_model.specs.Node as model;
 ghost use Rattle.live_node.specs.Plays.{Breaks, Plays, Stands};
 
 use clnp_machine::clnp_base::{NoMemory, Sink};
-use clnp_machine::clnp_plan::{Limits, SystemConfig};
+use clnp_machine::system_plan::{Limits, SystemConfig};
 use clnp_systems::{Input, System};
 use link_board::Ports;
 use std::alloc::Global;

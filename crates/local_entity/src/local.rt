@@ -21,11 +21,11 @@ use crate::action::{Action, Draft, Made};
 use crate::pending::{Pending, Request};
 use crate::pool::{DrawRefusal, IdPool};
 use clnp_machine::clnp_base::NoMemory;
-use clnp_machine::clnp_plan::{Ask, Limits, Note, SendRefusal, SystemConfig};
 use clnp_machine::clnp_views::{Frame, View};
 use clnp_machine::nsap::Address;
 use clnp_machine::pdu_header::{Header, HeaderRefusal, Kind, Parts, SegPart};
 use clnp_machine::reassembly::{Table, TableLimits};
+use clnp_machine::system_plan::{Ask, Limits, Note, SendRefusal, SystemConfig};
 use std::alloc::Global;
 use std::marker::Model;
 

@@ -12,8 +12,6 @@ mod stations;
 mod teller;
 mod telling;
 
-pub use command_base;
-pub use command_base::clnp_base;
 pub use form::Form;
 pub use make::pcap_make;
 pub use telling::{pcap_lines, pcap_show};

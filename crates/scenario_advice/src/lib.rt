@@ -19,5 +19,4 @@ mod word;
 
 pub use advice::Advice;
 pub use capture::{of_capture, of_vectors};
-pub use scenario;
 pub use scenario_text::{of_scenario, of_scenario_for_run, of_scenario_of_version_1};

@@ -5,5 +5,3 @@ mod cuts;
 pub mod laws;
 
 pub use cuts::{Cut, Cuts, NotPermitted};
-pub use pdu_header;
-pub use pdu_header::{clnp_base, clnp_options, clnp_views, fletcher, nsap};

@@ -10,10 +10,10 @@ ghost use Rattle.clnp_world.specs.Parts.{Changes, Follows, Holds, IsRunning};
 use super::Network;
 use crate::lines::Lines;
 use clnp_machine::clnp_base::{NoMemory, Octets};
-use clnp_machine::clnp_plan::{Note, PortConfig, Role};
 use clnp_machine::forwarding::Route;
 use clnp_machine::nsap::{Prefix, Snpa};
-use clnp_network::scenario::Subnet;
+use clnp_machine::system_plan::{Note, PortConfig, Role};
+use clnp_network::scenarios::Subnet;
 use clnp_systems::System;
 use std::alloc::Global;
 

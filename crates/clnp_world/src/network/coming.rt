@@ -12,8 +12,8 @@ use super::Network;
 use crate::copy::Origin;
 use crate::lines::Lines;
 use clnp_machine::clnp_base::NoMemory;
-use clnp_machine::clnp_plan::{Ask, Output};
 use clnp_machine::clnp_views::Frame;
+use clnp_machine::system_plan::{Ask, Output};
 use clnp_systems::Input;
 use std::alloc::Global;
 

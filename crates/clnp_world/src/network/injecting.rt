@@ -10,7 +10,7 @@ use crate::lines::Lines;
 use clnp_machine::clnp_base::{NoMemory, Octets};
 use clnp_machine::clnp_views::Frame;
 use clnp_machine::nsap::{Snpa, Target};
-use clnp_network::scenario::Subnet;
+use clnp_network::scenarios::Subnet;
 use std::alloc::Global;
 
 impl Network {

@@ -12,9 +12,9 @@ use super::coming::names_of_inputs;
 use crate::copy::NO_FRAME;
 use crate::lines::Lines;
 use clnp_machine::clnp_base::NoMemory;
-use clnp_machine::clnp_plan::{Ask, Role};
 use clnp_machine::nsap::Address;
-use clnp_network::scenario::Body;
+use clnp_machine::system_plan::{Ask, Role};
+use clnp_network::scenarios::Body;
 use clnp_systems::Input;
 use std::alloc::Global;
 

@@ -14,10 +14,10 @@ ghost use Rattle.esis_entity.specs.Stands.{Stands};
 use super::EsisEntity;
 use super::output::give_note;
 use clnp_machine::clnp_base::NoMemory;
-use clnp_machine::clnp_plan::{Note, Output, Role, SystemConfig};
-use clnp_machine::esis_pdus::{AddressList, EsisBody, EsisPdu};
+use clnp_machine::esis::{AddressList, EsisBody, EsisPdu};
 use clnp_machine::esis_tables::{Heard, Neighbour, TableKind};
 use clnp_machine::nsap::{Address, Snpa};
+use clnp_machine::system_plan::{Note, Output, Role, SystemConfig};
 
 impl EsisEntity {
     /// Hears a PDU in the role of the system.

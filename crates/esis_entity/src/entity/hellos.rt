@@ -9,10 +9,10 @@ ghost use Rattle.esis_entity.specs.Does.{StaysInFront};
 
 use super::output::send;
 use clnp_machine::clnp_base::NoMemory;
-use clnp_machine::clnp_plan::{Output, Role, SystemConfig};
 use clnp_machine::clnp_views::Head;
-use clnp_machine::esis_pdus::{HelloRefusal, esh, ish};
+use clnp_machine::esis::{HelloRefusal, esh, ish};
 use clnp_machine::nsap::{Address, Target};
+use clnp_machine::system_plan::{Output, Role, SystemConfig};
 
 /// Says hello on each of so many ports, as a system that says it once in `period` seconds.
 pub(crate) fn say_everywhere(

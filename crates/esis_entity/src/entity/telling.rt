@@ -14,8 +14,8 @@ use super::EsisEntity;
 use super::hellos::say_everywhere;
 use super::output::give_note;
 use clnp_machine::clnp_base::NoMemory;
-use clnp_machine::clnp_plan::{Note, Output, SystemConfig};
 use clnp_machine::esis_tables::{Gone, Tables, laws};
+use clnp_machine::system_plan::{Note, Output, SystemConfig};
 
 /// Forgets what has ended, and notes each key.
 fn forget(tables: &mut Tables, now: u64, out: &mut Vec<Output>) -> Result<(), NoMemory>

@@ -16,12 +16,12 @@ use super::Local;
 use crate::action::Action;
 use crate::purpose::{Purpose, purpose_in};
 use clnp_machine::clnp_base::{NoMemory, Octets};
-use clnp_machine::clnp_plan::Note;
 use clnp_machine::clnp_views::Frame;
 use clnp_machine::laws as machine_laws;
 use clnp_machine::nsap::Address;
 use clnp_machine::pdu_header::{Kind, Pdu, SegPart, decode, laws};
 use clnp_machine::reassembly::{Key, Segment, Shape};
+use clnp_machine::system_plan::Note;
 use std::alloc::Global;
 
 mod expiry;

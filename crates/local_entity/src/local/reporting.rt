@@ -10,10 +10,10 @@ ghost use Rattle.local_entity.specs.Reporting.{IsReport};
 use super::Local;
 use crate::action::{Action, Draft};
 use clnp_machine::clnp_base::NoMemory;
-use clnp_machine::clnp_plan::Note;
 use clnp_machine::clnp_views::{Frame, View};
 use clnp_machine::error_reports::report;
 use clnp_machine::pdu_header::Kind;
+use clnp_machine::system_plan::Note;
 use std::alloc::Global;
 
 impl Local {

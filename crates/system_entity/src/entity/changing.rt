@@ -10,9 +10,9 @@ ghost use Rattle.system_entity.specs.Stands.{PartsStandSince, Stands};
 
 use super::SystemEntity;
 use clnp_machine::clnp_base::NoMemory;
-use clnp_machine::clnp_plan::PortConfig;
 use clnp_machine::forwarding::Route;
 use clnp_machine::nsap::Prefix;
+use clnp_machine::system_plan::PortConfig;
 use std::alloc::Global;
 
 impl SystemEntity {

@@ -30,15 +30,15 @@ use super::{Arrival, SystemEntity};
 use crate::passing::Passing;
 use clnp_machine::clnp_base::NoMemory;
 use clnp_machine::clnp_options::Reason;
-use clnp_machine::clnp_plan::{Ask, Note, Output, PortConfig, Role, SendRefusal, SystemConfig};
 use clnp_machine::clnp_views::Frame;
-use clnp_machine::esis_pdus::EsisRefusal;
+use clnp_machine::esis::EsisRefusal;
 use clnp_machine::esis_tables::Neighbour;
 use clnp_machine::forwarding::{RouteRefusal, Routes};
 use clnp_machine::laws;
 use clnp_machine::nsap::Address;
 use clnp_machine::pdu_header::{Kind, Refusal, decode};
 use clnp_machine::segmenter::Cuts;
+use clnp_machine::system_plan::{Ask, Note, Output, PortConfig, Role, SendRefusal, SystemConfig};
 use clnp_machine::way::{Hop, Way};
 use esis_entity::send_redirect;
 use local_entity::{Action, give_pieces, send_unit};
@@ -237,7 +237,7 @@ impl SystemEntity {
         laws::a_frame_carries_one_esis_value();
         laws::no_frame_is_of_both_protocols();
         laws::hellos_leave_the_rest();
-        match clnp_machine::esis_pdus::decode(frame.bytes()) {
+        match clnp_machine::esis::decode(frame.bytes()) {
             Ok(pdu) => {
                 let config = self.local.config();
                 self.esis.hear(config, self.moment, neighbour, pdu, out)?;

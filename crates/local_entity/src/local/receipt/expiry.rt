@@ -17,8 +17,8 @@ use super::noting::note;
 use crate::action::Action;
 use clnp_machine::clnp_base::NoMemory;
 use clnp_machine::clnp_options::Reason;
-use clnp_machine::clnp_plan::Note;
 use clnp_machine::clnp_views::View;
+use clnp_machine::system_plan::Note;
 use std::alloc::Global;
 
 impl Local {

@@ -3,7 +3,7 @@ ghost use Rattle.std.specs.Prelude.{◌≡◌, ◌<◌, ◌≤◌, ◌+◌, ◌+
 ghost use Rattle.local_entity.specs.declared.action.Action.TheVariants.{Note as Noted};
 
 use crate::action::Action;
-use clnp_machine::clnp_plan::Note;
+use clnp_machine::system_plan::Note;
 
 /// Appends a note.
 pub(super) fn note(out: &mut Vec<Action>, note: Note)

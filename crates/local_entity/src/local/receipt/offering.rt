@@ -22,9 +22,9 @@ use crate::action::Action;
 use crate::purpose::Purpose;
 use clnp_machine::clnp_base::{NoMemory, Octets};
 use clnp_machine::clnp_options::Reason;
-use clnp_machine::clnp_plan::Note;
 use clnp_machine::clnp_views::{Frame, View};
 use clnp_machine::reassembly::{Accept, Key, Segment, Shape, SlotNo, Table};
+use clnp_machine::system_plan::Note;
 use std::alloc::Global;
 
 impl Local {
