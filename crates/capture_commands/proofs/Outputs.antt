@@ -7,9 +7,10 @@ use Rattle.hex.proofs.HexLemmas.{decode_of-ok}
 use Rattle.captures.specs.declared.vector.Verdict.{Verdict}
 use Rattle.captures.specs.declared.vector.Verdict.TheVariants.{Skip}
 use Rattle.captures.specs.Captures as capture
-use Rattle.captures.specs.Captures.{most_octets, Capture, is_skipped, spelled_capture, capture_of}
+use Rattle.command_base.specs.ClnpBase.Text.{is_skipped}
+use Rattle.captures.specs.Captures.{most_octets, Capture, spelled_capture, capture_of}
 use Rattle.captures.specs.Vectors as vector
-use Rattle.captures.specs.Vectors.{Vector, vector_of, before_space, from_space, behind_arrow, spelled_vector, expecting, Judges}
+use Rattle.captures.specs.Vectors.{Vector, vector_of, before_space, from_space, behind_arrow, spelled_vector, Judges}
 use Rattle.captures.specs.Shown.{Shows}
 use Rattle.capture_commands.specs.declared.check.Tally.{Tally}
 use Rattle.capture_commands.specs.Show.{ShowsLines, ShowsLine}

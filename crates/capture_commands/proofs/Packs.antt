@@ -1,7 +1,7 @@
 -- What putting the digits of the frame that a line packs to into a block comes to.
 use Rattle.std.proofs.Common.{◌≡◌, ◌↔◌, ℕ, ◌+◌, true, List, [], ◌∷◌, ◌++◌, Result, Ok, Err, IfOk, refl, sym, ap, ◌∙◌, append_assoc, append-nil}
 use Rattle.captures.specs.Nsap.Text.{hex_text}
-use Rattle.captures.specs.Captures.{is_skipped}
+use Rattle.command_base.specs.ClnpBase.Text.{is_skipped}
 use Rattle.capture_text.specs.declared.refusal.PackRefusal.{PackRefusal}
 use Rattle.capture_text.specs.declared.refusal.PackRefusal.TheVariants as pack_refusal
 use Rattle.capture_text.specs.Packing.{IsNotShown, PacksTooMuch, PacksWithin, is_unpackable}

@@ -4,10 +4,10 @@ use Rattle.std.specs.List.{AllByRecursion, filter}
 use Rattle.std.proofs.lemmas.List.Elements.{recursion_from_All}
 use Rattle.hex.specs.Hex.{IsBytes, lower_digits}
 use Rattle.hex.proofs.HexLemmas.{length-encode_with}
-use Rattle.captures.specs.ClnpBase.Text.{lines_of}
+use Rattle.captures.specs.ClnpBase.Text.{is_skipped, lines_of}
 use Rattle.captures.specs.Nsap.Text.{hex_text}
 use Rattle.captures.specs.Captures as capture
-use Rattle.captures.specs.Captures.{Capture, capture_of, is_skipped, most_octets}
+use Rattle.captures.specs.Captures.{Capture, capture_of, most_octets}
 use Rattle.captures.specs.Shown.{Shows}
 use Rattle.capture_text.specs.Packing.{IsAccepted, IsAsked, Packs, PacksWithin}
 use Rattle.capture_text.specs.Outcome as outcome

@@ -8,13 +8,14 @@ use Rattle.capture_commands.specs.declared.check.Tally.{Tally}
 use Rattle.command_base.specs.declared.status.Status.{Status}
 use Rattle.command_base.specs.declared.status.Status.TheVariants as status
 use Rattle.command_base.specs.ByLine.{Work}
+use Rattle.command_base.specs.Codes.{count_code, syntax_code}
 use Rattle.command_base.specs.Output.{AppendsCalled, AppendsCalledFront, AppendsCalledPart}
 
 -- what a line with this number calls for, before lines that call for `later`
 abbrev pub status_at : ℕ → Vector → Status → Status
 status_at number Skipped later = later
-status_at number Malformed later = status.BadInput number 2
-status_at number TooLong later = status.BadInput number 10
+status_at number Malformed later = status.BadInput number syntax_code
+status_at number TooLong later = status.BadInput number count_code
 status_at number (Expects octets expected) later = later
 
 -- the answer that lines call for, the first of which has this number: the first bad line, if there is one

@@ -5,14 +5,15 @@ use Rattle.capture_text.specs.Outcome.{Outcome, Skipped, NotPackable, NotShown, 
 use Rattle.command_base.specs.declared.status.Status.{Status}
 use Rattle.command_base.specs.declared.status.Status.TheVariants as status
 use Rattle.command_base.specs.ByLine.{Work}
+use Rattle.command_base.specs.Codes.{count_code, not_packable_code, syntax_code}
 use Rattle.command_base.specs.Output.{AppendsCalled, AppendsCalledFront, AppendsCalledPart}
 
 -- what a line with this number calls for, before lines that call for `later`
 abbrev pub status_at : ℕ → Outcome → Status → Status
 status_at number Skipped later = later
-status_at number NotPackable later = status.BadInput number 16
-status_at number NotShown later = status.BadInput number 2
-status_at number TooLong later = status.BadInput number 10
+status_at number NotPackable later = status.BadInput number not_packable_code
+status_at number NotShown later = status.BadInput number syntax_code
+status_at number TooLong later = status.BadInput number count_code
 status_at number (Frame octets) later = later
 
 -- the answer that lines call for, the first of which has this number: the first bad line, if there is one

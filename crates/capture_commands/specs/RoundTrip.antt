@@ -1,9 +1,9 @@
 -- What is shown and packed again, and what is packed and shown again.
 use Rattle.std.specs.Prelude.{◌≡◌, ℕ, ◌≤◌, not, List, [], ◌∷◌, ◌++◌, length, filter, All}
 use Rattle.hex.specs.Hex.{IsBytes}
-use Rattle.captures.specs.ClnpBase.Text.{lines_of}
+use Rattle.captures.specs.ClnpBase.Text.{is_skipped, lines_of}
 use Rattle.captures.specs.Nsap.Text.{hex_text}
-use Rattle.captures.specs.Captures.{is_skipped, most_octets}
+use Rattle.captures.specs.Captures.{most_octets}
 use Rattle.capture_text.specs.Packing.{IsAccepted}
 use Rattle.command_base.specs.declared.status.Status.TheVariants.{Done}
 use Rattle.capture_commands.specs.Show.{show_status, ShowsLines}

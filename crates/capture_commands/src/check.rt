@@ -1,5 +1,5 @@
 //! The command `check`: a file of vectors judged line by line.
-ghost use Rattle.std.specs.Prelude.{◌≡◌, ◌≤◌, ◌<◌, ◌+◌, ℕ, List, [], ◌∷◌, ◌++◌, length, Option, Err, IfOk, OnOk, OnErr};
+ghost use Rattle.std.specs.Prelude.{◌≡◌, ◌≤◌, ◌<◌, ◌+◌, ℕ, List, [], ◌∷◌, ◌++◌, length, Option, Err, IfOk, OnOk};
 ghost use Rattle.hex.specs.Hex.{IsBytes};
 ghost use Rattle.captures.specs.Vectors.{Judges};
 ghost use Rattle.command_base.specs.ClnpBase.Streams.{Rose};
@@ -49,7 +49,8 @@ impl Tally {
 pub fn check<K: Sink>(alloc: Global, text: &[u8], sink: &mut K) -> Status
     requires { length text.now ≤ most_input }
     ensures later { K.faults sink.old ≤ K.faults sink.new }
-    ensures comes_to { ComesAs (task_of checking first_checked (lines_of text.now)) (K.written sink.old) (K.written sink.new) result }
+    ensures comes_to { ComesAs (task_of checking first_checked (lines_of text.now))
+        (K.written sink.old) (K.written sink.new) result }
     ensures failed { result ≡ Status.WriteFault → Rose (K.faults sink.old) (K.faults sink.new) }
 {
     // Its clause: vectors behind a stop have their verdicts too.
@@ -96,9 +97,11 @@ fn check_next<K: Sink>(
     requires { tally.passed + tally.failed < most_input }
     ensures later { K.faults sink.old ≤ K.faults sink.new }
     ensures comes_to { (all left : List (List ℕ)) (before : Option (List ℕ))
-        → Midway checking first_checked (record { number = number; tally = tally }) all (line.now ∷ left) before (K.written sink.old) block.old.items
+        → Midway checking first_checked (record { number = number; tally = tally }) all (line.now ∷ left) before
+        (K.written sink.old) block.old.items
         → NextOf checking first_checked
-        (λ counts. record { number = number + 1; tally = counts }) all left number before (K.written sink.new) block.new.items result }
+        (λ counts. record { number = number + 1; tally = counts })
+        all left number before (K.written sink.new) block.new.items result }
     ensures counted { IfOk result (λ counts. counts.passed + counts.failed ≤ tally.passed + tally.failed + 1) }
     ensures failed { result ≡ Err LineStop.WriteFault → Rose (K.faults sink.old) (K.faults sink.new) }
 {
@@ -122,7 +125,8 @@ fn push_line(
 ) -> Result<Tally, LineFault>
     requires { tally.passed + tally.failed < most_input }
     ensures pushed { PushOf checking (record { number = number; tally = tally })
-        (λ counts. record { number = number + 1; tally = counts }) number line.now block.old.items block.new.items result }
+        (λ counts. record { number = number + 1; tally = counts })
+        number line.now block.old.items block.new.items result }
     ensures counted { IfOk result (λ counts. counts.passed + counts.failed ≤ tally.passed + tally.failed + 1) }
 {
     match check_line(alloc, line, number, block) {
@@ -136,7 +140,8 @@ fn push_line(
 /// Puts the end of the line of a verdict into the block. Answers the counts after it.
 fn push_end(verdict: Verdict, tally: Tally, block: &mut Vec<u8>) -> Result<Tally, LineFault>
     requires { tally.passed + tally.failed < most_input }
-    ensures ended { IfOk result (λ counts. (block.new.items ≡ block.old.items ++ (10 ∷ [])) × (counts ≡ counting verdict tally)) }
+    ensures ended { IfOk result (λ counts. (block.new.items ≡ block.old.items ++ (10 ∷ []))
+        × (counts ≡ counting verdict tally)) }
     ensures refused { (fault : LineFault) → result ≡ Err fault → fault ≡ LineFault.NoMemory }
 {
     match block.push(b'\n') {

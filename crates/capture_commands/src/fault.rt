@@ -5,15 +5,7 @@ ghost use Rattle.capture_commands.specs.Faults.{fault_of, unpacked_fault};
 use capture_text::PackRefusal;
 use captures::LineRefusal;
 use command_base::LineFault;
-
-/// The code of a line of another form.
-const SYNTAX: u8 = 2;
-
-/// The code of a line whose frame has too many octets.
-const COUNT: u8 = 10;
-
-/// The code of a line that is that of a refused frame, or of one of neither protocol.
-const NOT_PACKABLE: u8 = 16;
+use command_base::code::{COUNT, NOT_PACKABLE, SYNTAX};
 
 /// What is wrong with a line that was refused.
 pub(crate) fn fault_of(refusal: LineRefusal) -> LineFault

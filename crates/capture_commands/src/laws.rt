@@ -6,8 +6,8 @@ ghost use Rattle.capture_commands.specs.RoundTrip.{EndsPlainly, IsAcceptedCaptur
 use capture_text::laws as packed;
 use captures::laws as shown;
 
-/// Of a capture in lower case without skipped lines, each line of which ends by `\n` alone, whose frames are accepted and
-/// have at most 70,000 octets each: `pack` of what `show` writes for it is the capture, and isn't longer.
+/// Of a capture in lower case without skipped lines, each line of which ends by `\n` alone, whose frames are accepted
+/// and have at most 70,000 octets each: `pack` of what `show` writes for it is the capture, and isn't longer.
 pub fn what_is_shown_is_packed_again()
     ensures { (capture : List ℕ) → IsAcceptedCapture capture
         → (text : List ℕ) × ShowsAs capture text × PacksTo text capture × (length capture ≤ length text) }
@@ -20,8 +20,8 @@ pub fn what_is_shown_is_packed_again()
     packed::digits_are_a_capture_line();
 }
 
-/// Of a text each line of which ends by `\n` alone and on which `pack` is done: `show` of what `pack` wrote, which isn't
-/// longer, is that text without its skipped lines.
+/// Of a text each line of which ends by `\n` alone and on which `pack` is done: `show` of what `pack` wrote, which
+/// isn't longer, is that text without its skipped lines.
 pub fn what_is_packed_is_shown_again()
     ensures { (text packed : List ℕ) → EndsPlainly text → PacksTo text packed
         → ShowsAs packed (without_skipped text) × (length packed ≤ length text) }

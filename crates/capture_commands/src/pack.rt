@@ -17,7 +17,8 @@ use std::alloc::Global;
 pub fn pack<K: Sink>(alloc: Global, text: &[u8], sink: &mut K) -> Status
     requires { length text.now ≤ most_input }
     ensures later { K.faults sink.old ≤ K.faults sink.new }
-    ensures comes_to { ComesAs (task_of packing 1 (lines_of text.now)) (K.written sink.old) (K.written sink.new) result }
+    ensures comes_to { ComesAs (task_of packing 1 (lines_of text.now))
+        (K.written sink.old) (K.written sink.new) result }
     ensures failed { result ≡ Status.WriteFault → Rose (K.faults sink.old) (K.faults sink.new) }
 {
     let mut block = Vec::new(alloc);
@@ -57,7 +58,8 @@ fn pack_next<K: Sink>(
 
 /// Puts the digits of the frame that a line packs to into the block, and the end of their line, if it packs to one.
 fn push_line(alloc: Global, line: &[u8], block: &mut Vec<u8>) -> Result<(), LineFault>
-    ensures { (number : ℕ) → PushOf packing number (λ done. number + 1) number line.now block.old.items block.new.items result }
+    ensures { (number : ℕ) → PushOf packing number
+        (λ done. number + 1) number line.now block.old.items block.new.items result }
 {
     // Its clause: one thing comes of a line.
     laws::the_outcome_of_a_line();

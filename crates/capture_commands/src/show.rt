@@ -18,7 +18,8 @@ use std::alloc::Global;
 pub fn show<K: Sink>(alloc: Global, text: &[u8], sink: &mut K) -> Status
     requires { length text.now ≤ most_input }
     ensures later { K.faults sink.old ≤ K.faults sink.new }
-    ensures comes_to { ComesAs (task_of showing 1 (lines_of text.now)) (K.written sink.old) (K.written sink.new) result }
+    ensures comes_to { ComesAs (task_of showing 1 (lines_of text.now))
+        (K.written sink.old) (K.written sink.new) result }
     ensures failed { result ≡ Status.WriteFault → Rose (K.faults sink.old) (K.faults sink.new) }
 {
     // Its clause: frames behind a stop have their lines too.
@@ -76,7 +77,8 @@ fn push_line(
     frame: &mut Vec<u8>,
     block: &mut Vec<u8>,
 ) -> Result<(), LineFault>
-    ensures { (number : ℕ) → PushOf showing number (λ done. number + 1) number line.now block.old.items block.new.items result }
+    ensures { (number : ℕ) → PushOf showing number
+        (λ done. number + 1) number line.now block.old.items block.new.items result }
 {
     frame.clear();
     match read_capture(line, frame) {

@@ -1,7 +1,8 @@
 -- The lines of a capture: frames in hexadecimal digits, and lines to skip.
-use Rattle.std.specs.Prelude.{◌≡◌, ◌↔◌, ℕ, ◌==◌, nat_lt, Bool, true, false, if◌then◌else◌, List, [], ◌∷◌, length, Result, Ok, Err}
+use Rattle.std.specs.Prelude.{◌≡◌, ◌↔◌, ℕ, nat_lt, Bool, false, if◌then◌else◌, List, length, Result, Ok, Err}
 use Rattle.hex.specs.Hex.{decode_of}
 use Rattle.hex.specs.declared.error.FromHexError.{FromHexError}
+pub use Rattle.esis_pdus.specs.ClnpBase.Text.{is_skipped}
 use Rattle.captures.specs.declared.capture.LineRefusal.{LineRefusal}
 use Rattle.captures.specs.declared.capture.LineRefusal.TheVariants.{Syntax, Count}
 
@@ -15,11 +16,6 @@ pub data Capture : Type 0 where
   Malformed : Capture
   TooLong : Capture
   Frame : (octets : List ℕ) → Capture
-
--- an empty line, and one that begins with `#`
-abbrev pub is_skipped : List ℕ → Bool
-is_skipped [] = true
-is_skipped (first ∷ others) = first == 35
 
 -- the octets that hexadecimal digits spell, two digits each, in either case; an odd number of digits and any
 -- other character spell none

@@ -2,19 +2,12 @@
 use Rattle.std.specs.Prelude.{◌≡◌, ℕ, ◌==◌, Bool, if◌then◌else◌, List, [], ◌∷◌, ◌++◌, codes, Option, Some, None, is_some, MatchBool, MatchOption}
 use Rattle.std.specs.Fmt.{decimal}
 use Rattle.esis_pdus.specs.Nsap.Text.{hex_text}
-use Rattle.esis_pdus.specs.PduHeader.declared.kind.Kind.{Kind}
-use Rattle.esis_pdus.specs.PduHeader.declared.kind.Kind.TheVariants.{Dt, Er, Erq, Erp}
+pub use Rattle.esis_pdus.specs.PduHeader.Kinds.{kind_word}
 use Rattle.esis_pdus.specs.PduHeader.Value.{SegmentationPart, PduValue}
 use Rattle.esis_pdus.specs.PduHeader.Grammar.{BeginsWith}
 use Rattle.esis_pdus.specs.PduHeader.Rules.{octet, refusal, is_reportable}
 use Rattle.captures.specs.Words.{octet_word, pair_word, options_text, checksum_of}
 use Rattle.captures.specs.EsisShown.{ShowsOther}
-
-abbrev pub kind_word : Kind → List ℕ
-kind_word Dt = codes "dt"
-kind_word Er = codes "er"
-kind_word Erq = codes "erq"
-kind_word Erp = codes "erp"
 
 -- a flag's letter where it is 1, and nothing where it is 0
 abbrev pub letter_of : Bool → List ℕ → List ℕ

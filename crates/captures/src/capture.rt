@@ -1,9 +1,9 @@
 ghost use Rattle.std.specs.Prelude.{◌≡◌, ◌≢◌, ◌↔◌, ◌++◌, ℕ, List, true, false, IsTrue, MatchBool, is_ok};
 ghost use Rattle.std.specs.List.{AllPass};
 ghost use Rattle.hex.specs.Hex.{is_hex_digit, decode_of};
-ghost use Rattle.captures.specs.Captures.{capture_of, Skipped, Malformed, TooLong, Frame, is_skipped, Tells};
+ghost use Rattle.captures.specs.Captures.{capture_of, Skipped, Malformed, TooLong, Frame, Tells};
 
-use esis_pdus::clnp_base::{HexFault, push_unhex};
+use esis_pdus::clnp_base::{HexFault, is_skipped, push_unhex};
 
 /// The most octets of a frame.
 pub const MOST_OCTETS: usize = 70_000;
@@ -70,16 +70,6 @@ fn refusal_of(line: &[u8], other: LineRefusal) -> LineRefusal
         other
     } else {
         LineRefusal::Syntax
-    }
-}
-
-/// Whether a line is to be skipped: it is empty or begins with `#`.
-pub fn is_skipped(line: &[u8]) -> bool
-    ensures { result ≡ is_skipped line.now }
-{
-    match line {
-        [] => true,
-        [first, ..] => *first == b'#',
     }
 }
 

@@ -1,6 +1,6 @@
 //! ES-IS frames as lines of text.
 
-ghost use Rattle.std.specs.Prelude.{◌≡◌, ◌++◌, OnOk, codes, option_map, ℕ, List};
+ghost use Rattle.std.specs.Prelude.{◌≡◌, ◌++◌, OnOk, codes, ℕ, List};
 ghost use Rattle.esis_pdus.specs.Spelling.{title_octets};
 ghost use Rattle.esis_pdus.specs.View.{pdu_value};
 ghost use Rattle.esis_pdus.specs.Nsap.Text.{hex_text};

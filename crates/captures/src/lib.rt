@@ -8,8 +8,9 @@ mod line;
 mod vector;
 mod words;
 
-pub use capture::{LineRefusal, MOST_OCTETS, is_skipped, read_capture};
+pub use capture::{LineRefusal, MOST_OCTETS, read_capture};
 pub use esis_pdus;
 pub use esis_pdus::clnp_base;
+pub use esis_pdus::clnp_base::is_skipped;
 pub use line::show_line;
 pub use vector::{Verdict, check_line};

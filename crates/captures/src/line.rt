@@ -1,13 +1,11 @@
 //! Frames as lines of text.
 
-ghost use Rattle.std.specs.Prelude.{◌≡◌, ◌++◌, OnOk, OnErr, codes, option_map, ℕ, List};
-ghost use Rattle.std.specs.Fmt.{decimal};
-ghost use Rattle.esis_pdus.specs.Nsap.Text.{hex_text};
+ghost use Rattle.std.specs.Prelude.{◌≡◌, ◌++◌, OnOk, OnErr, option_map, ℕ, List};
 ghost use Rattle.esis_pdus.specs.PduHeader.View.{pdu_value, part_value};
 ghost use Rattle.captures.specs.Shown.{Shows, refusal_text, front_text, kind_and_flags_text, part_text, segmentation_text, value_text};
 
 use crate::esis::push_other;
-use crate::words::{flags_text, kind_text, push_octets, push_options, push_pair, report_text};
+use crate::words::{flags_text, push_octets, push_options, push_pair, report_text};
 use esis_pdus::clnp_base::{NoMemory, push, push_number};
 use esis_pdus::pdu_header::{Broken, Pdu, Refusal, SegPart, decode};
 use std::alloc::Global;
@@ -93,7 +91,7 @@ fn push_kind(pdu: &Pdu<'_>, line: &mut Vec<u8>) -> Result<(), NoMemory>
     ensures { OnOk result (line.new.items ≡ line.old.items ++ kind_and_flags_text (pdu_value pdu.now)) }
 {
     push(b"clnp ", line)?;
-    push(kind_text(pdu.kind), line)?;
+    push(pdu.kind.word(), line)?;
     push(b" ", line)?;
     push(flags_text(pdu.seg.is_some(), pdu.more, pdu.report), line)
 }

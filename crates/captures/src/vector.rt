@@ -5,9 +5,9 @@ ghost use Rattle.std.specs.Fmt.{decimal};
 ghost use Rattle.captures.specs.Captures.{is_skipped};
 ghost use Rattle.captures.specs.Vectors.{vector_of, Skipped, Malformed, TooLong, Expects, before_space, from_space, behind_arrow, verdict_of, verdict_text, Judges, JudgesLine};
 
-use crate::capture::{LineRefusal, is_skipped, read_capture};
+use crate::capture::{LineRefusal, read_capture};
 use crate::line::show_line;
-use esis_pdus::clnp_base::{NoMemory, push, push_decimal};
+use esis_pdus::clnp_base::{NoMemory, is_skipped, push, push_decimal};
 use std::alloc::Global;
 
 /// The verdict on a line of a file of vectors.

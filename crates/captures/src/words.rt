@@ -1,14 +1,13 @@
 //! The words and fields of a shown line.
 
-ghost use Rattle.std.specs.Prelude.{◌≡◌, ◌++◌, ◌∷◌, [], OnOk, OnErr, codes, length, IfNone, IfSome, ◌+◌};
+ghost use Rattle.std.specs.Prelude.{◌≡◌, ◌++◌, OnOk};
 ghost use Rattle.esis_pdus.specs.Nsap.Text.{hex_text};
-ghost use Rattle.esis_pdus.specs.ClnpOptions.Parameter.{Parameter, parameters};
-ghost use Rattle.captures.specs.Shown.{kind_word, flags_word, letters_of, letter_of, report_word};
-ghost use Rattle.captures.specs.Words.{octet_word, pair_word, option_text, options_text};
+ghost use Rattle.esis_pdus.specs.ClnpOptions.Parameter.{parameters};
+ghost use Rattle.captures.specs.Shown.{flags_word, letters_of, report_word};
+ghost use Rattle.captures.specs.Words.{pair_word, option_text, options_text};
 
 use esis_pdus::clnp_base::{NoMemory, push, push_hex};
 use esis_pdus::clnp_options::first_option;
-use esis_pdus::pdu_header::Kind;
 
 /// Appends a label, and octets as hexadecimal digits in lower case.
 pub(crate) fn push_octets(label: &[u8], octets: &[u8], line: &mut Vec<u8>) -> Result<(), NoMemory>
@@ -23,18 +22,6 @@ pub(crate) fn push_pair(label: &[u8], number: u16, line: &mut Vec<u8>) -> Result
     ensures { OnOk result (line.new.items ≡ line.old.items ++ (label.now ++ pair_word number)) }
 {
     push_octets(label, &number.to_be_bytes(), line)
-}
-
-/// The word of a kind of PDU.
-pub(crate) fn kind_text(kind: Kind) -> &'static [u8]
-    ensures { result.now ≡ kind_word kind }
-{
-    match kind {
-        Kind::Dt => b"dt",
-        Kind::Er => b"er",
-        Kind::Erq => b"erq",
-        Kind::Erp => b"erp",
-    }
 }
 
 /// The word of whether an error report is made.

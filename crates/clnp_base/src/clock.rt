@@ -7,8 +7,8 @@ use std::time::{Clock as MachineClock, Instant};
 
 /// What tells moments, each a number of ticks of half a second.
 ///
-/// A clock has the moments that it will give, where it tells them: some that don't fall, of which the last stays for ever.
-/// And it has the last moment that it gave, 0 before the first.
+/// A clock has the moments that it will give, where it tells them: some that don't fall, of which the last stays for
+/// ever. And it has the last moment that it gave, 0 before the first.
 pub trait Clock {
     // The moments that it will give, where they are told.
     ghost moments: { Self → Option (List ℕ) };
@@ -75,8 +75,8 @@ impl Clock for MemClock {
     }
 }
 
-/// A clock over the machine's, which never goes back: half seconds since its first reading. It tells nothing of the moments
-/// that it will give.
+/// A clock over the machine's, which never goes back: half seconds since its first reading. It tells nothing of the
+/// moments that it will give.
 #[derive(Drop)]
 pub struct HalfSeconds<R> {
     machine: R,

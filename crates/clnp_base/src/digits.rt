@@ -7,8 +7,8 @@ ghost use Rattle.clnp_base.specs.Hexadecimal.{AreTold, AreWorths, Spells, worth}
 use hex::FromHex;
 use std::marker::Model;
 
-/// What each character is worth as a hexadecimal digit, for texts of many words: to ask it anew for each word costs more than
-/// to read the word.
+/// What each character is worth as a hexadecimal digit, for texts of many words: to ask it anew for each word costs
+/// more than to read the word.
 ///
 /// A contract sees the list of it, with 255 for a character that is none.
 #[derive(Drop)]

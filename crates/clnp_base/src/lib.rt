@@ -19,4 +19,4 @@ pub use octets::{NoMemory, Octets};
 pub use put::{HexFault, push, push_decimal, push_hex, push_number, push_unhex};
 pub use standard::{StdSink, StdSource};
 pub use streams::{Failed, ReadStop, Sink, Source, read_all, write_all};
-pub use text::{LineIter, WordIter, decimal, lines, next_line, next_word, same, words};
+pub use text::{LineIter, WordIter, decimal, is_skipped, lines, next_line, next_word, same, words};

@@ -1,13 +1,14 @@
 ghost use Rattle.std.specs.Prelude.{◌≡◌, ◌-◌, ◌<◌, ◌≤◌, ◌∷◌, [], drop, length, false, MatchOption, IfSome};
 ghost use Rattle.std.specs.Str.{bytes_eq};
-ghost use Rattle.clnp_base.specs.Text.{lines_of, words_of, begins_with, decimal_of};
+ghost use Rattle.clnp_base.specs.Text.{lines_of, words_of, begins_with, decimal_of, is_skipped};
 ghost use Rattle.clnp_base.specs.Cuts.{index_of, without_return, with_digit};
 
 use std::marker::Model;
 
 /// The first line of a text and what follows it, where the text has a line.
 ///
-/// A line ends before a `\n` or with the text; one `\r` before the `\n` is dropped. What follows is the end of the text.
+/// A line ends before a `\n` or with the text; one `\r` before the `\n` is dropped. What follows is the end of the
+/// text.
 pub fn next_line(text: &[u8]) -> Option<(&[u8], &[u8])>
     ensures line { MatchOption result (lines_of text.now ≡ [])
         (λ cut. lines_of text.now ≡ cut.0.now ∷ lines_of cut.1.now) }
@@ -23,6 +24,16 @@ pub fn next_line(text: &[u8]) -> Option<(&[u8], &[u8])>
     }
     let (_, rest) = text.split_at(end + 1);
     Some((without_return(&text[..end]), rest))
+}
+
+/// Whether a line is empty or begins with `#`, and is to be skipped.
+pub fn is_skipped(line: &[u8]) -> bool
+    ensures { result ≡ is_skipped line.now }
+{
+    match line {
+        [first, ..] => *first == b'#',
+        [] => true,
+    }
 }
 
 /// The first word of a line and what follows it, where the line has a word.

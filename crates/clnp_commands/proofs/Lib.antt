@@ -1,4 +1,3 @@
-mod Advising
 pub mod Playing
 pub mod Runs
 pub mod Clocks

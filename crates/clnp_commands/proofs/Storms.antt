@@ -10,7 +10,7 @@ use Rattle.clnp_world.specs.Scenario.Seeds.{storm}
 use Rattle.clnp_world.specs.Scenario.declared.event.Move.{Move}
 use Rattle.clnp_world.specs.Scenario.declared.event.Move.TheVariants.{SettleOne}
 use Rattle.clnp_world.specs.ClnpNetwork.LabelledNetwork as network
-use Rattle.clnp_world.specs.ClnpNetwork.LabelledNetwork.{Step, after, first_world, is_full, weight}
+use Rattle.clnp_world.specs.ClnpNetwork.LabelledNetwork.{first_world}
 use Rattle.clnp_world.specs.ClnpNetwork.Run.{full_weight, journal, last_world, moves_of_plan, stopped_at, text_of, world_after, world_end}
 use Rattle.clnp_world.specs.State.{WorldState}
 use Rattle.clnp_world.specs.Stands.{Stands}

@@ -1,9 +1,8 @@
 -- What a call makes of its words, a source and a sink.
-use Rattle.std.specs.Prelude.{◌≡◌, ◌≢◌, ℕ, ◌+◌, ◌≤◌, ◌⊎◌, List, [], length, Option, Result, Ok, Err, IfSome}
+use Rattle.std.specs.Prelude.{◌≡◌, ◌≢◌, ℕ, ◌⊎◌, List, [], Option, Result, Ok, Err, IfSome}
 use Rattle.std.specs.Io.KnownBytes.{Keeps}
 use Rattle.capture_commands.specs.CommandBase.declared.status.Status.{Status}
 use Rattle.capture_commands.specs.CommandBase.declared.status.Status.TheVariants.{Done, BadWords, TooLong, BadInput, WorldFull, ReadFault, WriteFault, LinksGone, NoMemory}
-use Rattle.capture_commands.specs.CommandBase.ComesAs.{Task}
 use Rattle.capture_commands.specs.CommandBase.Reading.{Excuses, TakesTooMany, TakesWithin}
 use Rattle.pcap_commands.specs.declared.form.Form.{Form}
 use Rattle.pcap_commands.specs.declared.form.Form.TheVariants.{Shown, Remade}

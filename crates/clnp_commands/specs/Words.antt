@@ -8,7 +8,6 @@ use Rattle.clnp_commands.specs.declared.command.Command.{Command}
 use Rattle.clnp_commands.specs.declared.command.Command.TheVariants.{Whole, Streamed, Run}
 use Rattle.clnp_commands.specs.declared.command.WholeCommand.{WholeCommand}
 use Rattle.clnp_commands.specs.declared.command.WholeCommand.TheVariants.{Sim, Trace, Show, Check, Pack, PcapMake, Reassemble, Migrate, Storm}
-use Rattle.clnp_commands.specs.declared.command.StreamedCommand.{StreamedCommand}
 use Rattle.clnp_commands.specs.declared.command.StreamedCommand.TheVariants.{PcapShow, PcapLines}
 use Rattle.capture_commands.specs.CommandBase.Reading.{ReadsWhole}
 

@@ -6,9 +6,8 @@ use Rattle.pdu_header.specs.Nsap.Prefix.{prefix_text}
 use Rattle.pdu_header.specs.Nsap.Text.{hex_text}
 use Rattle.pdu_header.specs.Nsap.declared.target.Target.{Target}
 use Rattle.pdu_header.specs.Nsap.declared.target.Target.TheVariants.{System, EndSystems, Routers}
+pub use Rattle.pdu_header.specs.Kinds.{kind_word}
 use Rattle.pdu_header.specs.Spelling.{pair_of}
-use Rattle.pdu_header.specs.declared.kind.Kind.{Kind}
-use Rattle.pdu_header.specs.declared.kind.Kind.TheVariants.{Dt, Er, Erq, Erp}
 use Rattle.esis_tables.specs.declared.fact.Heard.{Heard}
 use Rattle.esis_tables.specs.declared.fact.Heard.TheVariants as hearing
 use Rattle.esis_tables.specs.declared.fact.TableKind.{TableKind}
@@ -19,12 +18,6 @@ use Rattle.clnp_plan.specs.declared.note.Note.{Note}
 use Rattle.clnp_plan.specs.declared.note.Note.TheVariants.{Sent, Refused, Got, Report, Echoed, Stray, Discard, Held, Repeat, Crowded, Many, NoSlot, Interference, Expired, NotMine, Alien, BadEsis, Hear, Gone, Ignored, Restart, Congest, Route, Unroute, Port}
 use Rattle.clnp_plan.specs.declared.note.Why.{Why}
 use Rattle.clnp_plan.specs.declared.note.Why.TheVariants as why
-
-abbrev pub kind_word : Kind → List ℕ
-kind_word Dt = codes "dt"
-kind_word Er = codes "er"
-kind_word Erq = codes "erq"
-kind_word Erp = codes "erp"
 
 -- octets in lower-case hexadecimal; no octets are `-`
 abbrev pub octets_word : List ℕ → List ℕ

@@ -1,5 +1,5 @@
-//! What a scenario says of one system, what a system is asked and gives out, the lines of a journal, and the words of which
-//! lines are written.
+//! What a scenario says of one system, what a system is asked and gives out, the lines of a journal, and the words of
+//! which lines are written.
 #![tactic(auto)]
 
 mod ask;

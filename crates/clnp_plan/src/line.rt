@@ -1,8 +1,9 @@
 //! Lines that are written: words separated by one space, each line ended by `\n`.
 ghost use Rattle.std.specs.Prelude.{◌≡◌, ◌++◌, map, take, length, OnOk, OnErr};
 ghost use Rattle.std.specs.List.{flat_map};
-ghost use Rattle.clnp_plan.specs.Journal.{behind_space, kind_word, line_of, octets_word, on_or_off, target_text};
+ghost use Rattle.clnp_plan.specs.Journal.{behind_space, line_of, octets_word, on_or_off, target_text};
 ghost use Rattle.clnp_plan.specs.Words.{word_text};
+ghost use Rattle.pdu_header.specs.Kinds.{kind_word};
 
 use pdu_header::Kind;
 use pdu_header::clnp_base::{NoMemory, push, push_decimal, push_hex, push_number};
@@ -43,7 +44,8 @@ pub fn push_line<'a>(
     others: &[Word<'a>],
     out: &mut Vec<u8>,
 ) -> Result<(), NoMemory>
-    ensures written { OnOk result (out.new.items ≡ out.old.items ++ line_of (word_text first.entry) (map word_text others.now)) }
+    ensures written { OnOk result (out.new.items
+        ≡ out.old.items ++ line_of (word_text first.entry) (map word_text others.now)) }
     ensures same { OnErr result (out.new.items ≡ out.old.items) }
 {
     let len = out.len();
@@ -60,7 +62,8 @@ fn push_whole_line<'a>(
     others: &[Word<'a>],
     out: &mut Vec<u8>,
 ) -> Result<(), NoMemory>
-    ensures written { OnOk result (out.new.items ≡ out.old.items ++ line_of (word_text first.entry) (map word_text others.now)) }
+    ensures written { OnOk result (out.new.items
+        ≡ out.old.items ++ line_of (word_text first.entry) (map word_text others.now)) }
     ensures kept { OnErr result (take (length out.old.items) out.new.items ≡ out.old.items) }
 {
     push_word(first, out)?;
@@ -135,12 +138,7 @@ pub fn target_text(target: &Target) -> Word<'_>
 pub fn kind_word(kind: Kind) -> Word<'static>
     ensures { word_text result ≡ kind_word kind }
 {
-    match kind {
-        Kind::Dt => Word::Text(b"dt"),
-        Kind::Er => Word::Text(b"er"),
-        Kind::Erq => Word::Text(b"erq"),
-        Kind::Erp => Word::Text(b"erp"),
-    }
+    Word::Text(kind.word())
 }
 
 /// The word of octets, which is `-` for none.

@@ -2,6 +2,7 @@
 use Rattle.std.specs.Prelude.{ℕ, ◌==◌, ◌||◌, Bool, if◌then◌else◌, List, [], ◌∷◌, ◌++◌, codes, Option, None, Some}
 use Rattle.std.specs.List.{flat_map}
 use Rattle.std.specs.Str.{bytes_eq}
+use Rattle.clnp_commands.specs.CommandBase.Codes.{magic_code}
 use Rattle.clnp_program.specs.declared.fault.Fault.{Fault}
 use Rattle.clnp_program.specs.declared.fault.Fault.TheVariants.{BadWords, BadInput}
 
@@ -148,7 +149,7 @@ wanted = codes "clnp: wanted: " ++ (one_of commands ++ codes "; clnp --help tell
 -- that is read, behind a magic number that is none
 abbrev pub behind_code : ℕ → List ℕ
 behind_code code =
-    if code == 11 then codes "clnp: a file in the pcapng form is turned into one by: tshark -r FILE -F pcap -w FILE.pcap\n" else []
+    if code == magic_code then codes "clnp: a file in the pcapng form is turned into one by: tshark -r FILE -F pcap -w FILE.pcap\n" else []
 
 -- what stands behind the text of a fault: the end of its line, behind bad words which words are commands, and behind a magic
 -- number that is none how a capture in another form is turned into one that is read

@@ -16,8 +16,8 @@ use std::alloc::Global;
 /// The exit number where the local end of a link word can't be bound.
 const NO_LINK: u8 = 9;
 
-/// Answers the words on the source, the sink, the board of links and the clock, says on `errors` what went wrong, and gives the
-/// exit number.
+/// Answers the words on the source, the sink, the board of links and the clock, says on `errors` what went wrong, and
+/// gives the exit number.
 pub fn run<S: Source, K: Sink, B: Ports, C: Clock, E: Sink>(
     alloc: Global,
     words: &[String],
@@ -29,16 +29,21 @@ pub fn run<S: Source, K: Sink, B: Ports, C: Clock, E: Sink>(
 ) -> u8
     // The counts of faults never fall, nor does the clock go back.
     ensures later { (S.faults source.old ≤ S.faults source.new)
-        × ((K.faults sink.old ≤ K.faults sink.new) × ((E.faults errors.old ≤ E.faults errors.new) × (C.last clock.old ≤ C.last clock.new))) }
+        × ((K.faults sink.old ≤ K.faults sink.new) × ((E.faults errors.old ≤ E.faults errors.new)
+        × (C.last clock.old ≤ C.last clock.new))) }
 
-    // There is a status that the words, the source and the sink come to, and there is what is told beside it, and the exit
-    // number and what is said are theirs.
-    ensures answers { (status : Status) × (advice : List ℕ) × Advised (command_of (map string_bytes words.now)) status advice
-        × Ends status advice result (E.written errors.old) (E.written errors.new) (Rose (E.faults errors.old) (E.faults errors.new))
-        × Answers (map string_bytes words.now) (S.left source.old) (S.left source.new) (K.written sink.old) (K.written sink.new)
+    // There is a status that the words, the source and the sink come to, and there is what is told beside it, and the
+    // exit number and what is said are theirs.
+    ensures answers { (status : Status) × (advice : List ℕ)
+        × Advised (command_of (map string_bytes words.now)) status advice
+        × Ends status advice result (E.written errors.old) (E.written errors.new)
+        (Rose (E.faults errors.old) (E.faults errors.new))
+        × Answers (map string_bytes words.now) (S.left source.old) (S.left source.new)
+        (K.written sink.old) (K.written sink.new)
         (source.new ≡ source.old) (sink.new ≡ sink.old)
         (Rose (S.faults source.old) (S.faults source.new)) (Rose (K.faults sink.old) (K.faults sink.new)) status
-        × Runs (map string_bytes words.now) (S.left source.old) (S.left source.new) (K.written sink.old) (K.written sink.new)
+        × Runs (map string_bytes words.now) (S.left source.old) (S.left source.new)
+        (K.written sink.old) (K.written sink.new)
         (B.ports board.old) (B.ports board.new) (C.moments clock.old) (C.moments clock.new)
         (sink.new ≡ sink.old) (board.new ≡ board.old) (clock.new ≡ clock.old)
         (Rose (S.faults source.old) (S.faults source.new)) (Rose (K.faults sink.old) (K.faults sink.new)) status }
@@ -53,7 +58,8 @@ pub fn run<S: Source, K: Sink, B: Ports, C: Clock, E: Sink>(
 /// Where standard error fails too, the exit number alone tells.
 pub fn end<E: Sink>(status: Status, errors: &mut E) -> u8
     ensures later { E.faults errors.old ≤ E.faults errors.new }
-    ensures ends { Ends status [] result (E.written errors.old) (E.written errors.new) (Rose (E.faults errors.old) (E.faults errors.new)) }
+    ensures ends { Ends status [] result (E.written errors.old) (E.written errors.new)
+        (Rose (E.faults errors.old) (E.faults errors.new)) }
 {
     end_advised(status, &Advice::new(), errors)
 }
@@ -61,7 +67,8 @@ pub fn end<E: Sink>(status: Status, errors: &mut E) -> u8
 /// Says what went wrong, if anything did, and what is told beside it, and gives the exit number.
 fn end_advised<E: Sink>(status: Status, advice: &Advice, errors: &mut E) -> u8
     ensures later { E.faults errors.old ≤ E.faults errors.new }
-    ensures ends { Ends status advice.now result (E.written errors.old) (E.written errors.new) (Rose (E.faults errors.old) (E.faults errors.new)) }
+    ensures ends { Ends status advice.now result (E.written errors.old) (E.written errors.new)
+        (Rose (E.faults errors.old) (E.faults errors.new)) }
 {
     let _ = report(status, advice, errors);
     status.exit_number()
@@ -73,7 +80,8 @@ fn end_advised<E: Sink>(status: Status, advice: &Advice, errors: &mut E) -> u8
 pub fn end_without_link<E: Sink>(at: usize, errors: &mut E) -> u8
     ensures later { E.faults errors.old ≤ E.faults errors.new }
     ensures exits { result ≡ 9 }
-    ensures told { WritesLine (Fault.NoLink at) (E.written errors.old) (E.written errors.new) ⊎ Rose (E.faults errors.old) (E.faults errors.new) }
+    ensures told { WritesLine (Fault.NoLink at) (E.written errors.old) (E.written errors.new)
+        ⊎ Rose (E.faults errors.old) (E.faults errors.new) }
 {
     let _ = write_fault(Fault::NoLink { at }, errors);
     NO_LINK
@@ -90,12 +98,15 @@ fn answer<S: Source, K: Sink, B: Ports, C: Clock>(
     advice: &mut Advice,
 ) -> Status
     requires { advice.old ≡ [] }
-    ensures later { (S.faults source.old ≤ S.faults source.new) × (K.faults sink.old ≤ K.faults sink.new) × (C.last clock.old ≤ C.last clock.new) }
-    ensures runs { Runs (map string_bytes words.now) (S.left source.old) (S.left source.new) (K.written sink.old) (K.written sink.new)
+    ensures later { (S.faults source.old ≤ S.faults source.new) × (K.faults sink.old ≤ K.faults sink.new)
+        × (C.last clock.old ≤ C.last clock.new) }
+    ensures runs { Runs (map string_bytes words.now) (S.left source.old) (S.left source.new)
+        (K.written sink.old) (K.written sink.new)
         (B.ports board.old) (B.ports board.new) (C.moments clock.old) (C.moments clock.new)
         (sink.new ≡ sink.old) (board.new ≡ board.old) (clock.new ≡ clock.old)
         (Rose (S.faults source.old) (S.faults source.new)) (Rose (K.faults sink.old) (K.faults sink.new)) result }
-    ensures answers { Answers (map string_bytes words.now) (S.left source.old) (S.left source.new) (K.written sink.old) (K.written sink.new)
+    ensures answers { Answers (map string_bytes words.now) (S.left source.old) (S.left source.new)
+        (K.written sink.old) (K.written sink.new)
         (source.new ≡ source.old) (sink.new ≡ sink.old)
         (Rose (S.faults source.old) (S.faults source.new)) (Rose (K.faults sink.old) (K.faults sink.new)) result }
     ensures advised { Advised (command_of (map string_bytes words.now)) result advice.new }
@@ -109,7 +120,8 @@ fn answer<S: Source, K: Sink, B: Ports, C: Clock>(
 /// Writes a text about the program.
 fn inform<K: Sink>(text: &str, sink: &mut K) -> Status
     ensures later { K.faults sink.old ≤ K.faults sink.new }
-    ensures informs { Informs text.now (K.written sink.old) (K.written sink.new) (Rose (K.faults sink.old) (K.faults sink.new)) result }
+    ensures informs { Informs text.now (K.written sink.old) (K.written sink.new)
+        (Rose (K.faults sink.old) (K.faults sink.new)) result }
     ensures no_input { is_bad_input result ≡ false }
 {
     match write_all(sink, text.as_bytes()) {

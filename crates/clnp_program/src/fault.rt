@@ -2,12 +2,16 @@
 ghost use Rattle.std.specs.Prelude.{◌≡◌, ◌≤◌, ◌++◌, codes, OnOk, OnErr};
 ghost use Rattle.std.specs.Io.KnownBytes.{Appends};
 ghost use Rattle.clnp_commands.specs.ClnpBase.Streams.{Rose};
+ghost use Rattle.clnp_commands.specs.CommandBase.Codes.{magic_code};
 ghost use Rattle.clnp_program.specs.Answers.{Tells, TellsFault, WritesLine, line_of_advice};
 ghost use Rattle.clnp_program.specs.Faults.{fault_of};
 ghost use Rattle.clnp_program.specs.Texts.{behind_code, behind_fault, wanted};
 
 use arrayvec::ArrayString;
 use clnp_commands::clnp_base::{Failed, Sink, write_all};
+use clnp_commands::command_base::code::{
+    CUT_FILE, LINK_TYPE, MAGIC, NOT_PACKABLE, RECORD_LENGTH, VERSION,
+};
 use clnp_commands::scenarios::Code;
 use clnp_commands::{Advice, Status};
 use std::fmt::Write;
@@ -17,9 +21,6 @@ use thiserror::Error;
 const WANTED: &str = "
 clnp: wanted: sim, trace, show, check, pack, pcap-show, pcap-make, pcap-lines, reassemble, migrate, storm, or run; clnp --help tells of each
 ";
-
-/// The code of a magic number that is none.
-const MAGIC: u8 = 11;
 
 /// The end of the line of a magic number that is none, and what may be done.
 const PCAPNG: &str = "
@@ -151,8 +152,8 @@ fn text_of(fault: Fault) -> ArrayString<MOST_TEXT> {
     text
 }
 
-/// What stands behind the text of a fault: the end of its line, behind bad words which words are commands, and behind a magic
-/// number that is none how a capture in another form is turned into one that is read.
+/// What stands behind the text of a fault: the end of its line, behind bad words which words are commands, and behind a
+/// magic number that is none how a capture in another form is turned into one that is read.
 fn behind(fault: Fault) -> &'static str
     ensures { result.now ≡ behind_fault fault }
 {
@@ -165,7 +166,7 @@ fn behind(fault: Fault) -> &'static str
 
 /// The end of a line, and how a capture in another form is turned into one that is read.
 fn behind_magic() -> &'static str
-    ensures { result.now ≡ codes "\n" ++ behind_code 11 }
+    ensures { result.now ≡ codes "\n" ++ behind_code magic_code }
 {
     PCAPNG
 }
@@ -180,12 +181,12 @@ fn behind_bad_words() -> &'static str
 /// The name of the code of what a line of an input breaks.
 fn code_name(code: u8) -> &'static str {
     match code {
-        11 => "magic",
-        12 => "version",
-        13 => "link-type",
-        14 => "record-length",
-        15 => "cut-file",
-        16 => "not-packable",
+        MAGIC => "magic",
+        VERSION => "version",
+        LINK_TYPE => "link-type",
+        RECORD_LENGTH => "record-length",
+        CUT_FILE => "cut-file",
+        NOT_PACKABLE => "not-packable",
         _ => Code::of_number(code).map_or("other", Code::name),
     }
 }

@@ -57,7 +57,8 @@ A scenario, in which the host a sends two octets to the host b:
   end
 ";
 
-/// The text that the words ask for about the program itself, if they do: a word that stands alone, or a command and `--help`.
+/// The text that the words ask for about the program itself, if they do: a word that stands alone, or a command and
+/// `--help`.
 pub(crate) fn information(words: &[String]) -> Option<&'static str>
     ensures { option_copied result ≡ information (map string_bytes words.now) }
 {

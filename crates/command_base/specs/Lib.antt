@@ -1,4 +1,5 @@
 pub use Rattle.clnp_base.specs as ClnpBase
+pub mod Codes
 pub mod Exit
 pub mod Output
 pub mod ByLine

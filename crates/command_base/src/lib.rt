@@ -1,8 +1,9 @@
-//! What the commands of the program share: how a call ends, output that waits in a block, and input that is gone over
-//! line by line.
+//! What the commands of the program share: how a call ends, the codes of bad inputs, output that waits in a block, and
+//! input that is gone over line by line.
 #![tactic(auto)]
 
 mod block;
+pub mod code;
 mod status;
 
 pub use block::{LineFault, LineStop, flush, flush_full, refuse, write_block, write_full_block};

@@ -6,7 +6,7 @@ use Rattle.std.specs.Str.{bytes_eq}
 use Rattle.std.proofs.lemmas.Bool.{and_parts, cases_Bool, leb-true, not-true, true≢false}
 use Rattle.std.proofs.lemmas.List.{map-append}
 use Rattle.std.proofs.lemmas.Option.{get_or_from_slice_get, none-some, same_Some, slice_get_within}
-use Rattle.scenario.specs.ClnpBase.Text.{lines_of, words_of}
+use Rattle.scenario.specs.ClnpBase.Text.{lines_of, words_of, is_skipped}
 use Rattle.scenario.proofs.ClnpBase.Choices.{is_equal, not_equal}
 use Rattle.scenario.proofs.ClnpBase.Found.{contains_any}
 use Rattle.scenario.proofs.ClnpBase.Lists.{AllByRecursion-push, slice_get-push, slice_get-push_other}
@@ -18,7 +18,7 @@ use Rattle.fair_reassembly.specs.declared.share.Share.{Share}
 use Rattle.fair_reassembly.specs.Tables.{AreDistinct, limits_of, sources_of}
 use Rattle.scenario.specs.Grammar.{BadLine, ReadTo, is_line_of, nothing_after}
 use Rattle.scenario.proofs.Behind.{behind_found, behind_line_such, behind_result, behind_such, behind_wanted, either_way, number_is_within}
-use Rattle.scenario.specs.Words.{five_words, frame_word, is_skipped, literal, number_word, two_words}
+use Rattle.scenario.specs.Words.{five_words, frame_word, literal, number_word, two_words}
 use Rattle.fair_text.specs.Claims.{IsAccepted, IsInRange}
 use Rattle.fair_text.specs.Grammar.{Capture, are_few, budget_word, capture_at, capture_of, frame_line, frames_from, has_share, header_from, hold_word, next_frame, others_from, others_line, segments_word, share_line, shares_from, slots_word, with_share}
 

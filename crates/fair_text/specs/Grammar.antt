@@ -2,7 +2,7 @@
 use Rattle.std.specs.Prelude.{ℕ, ◌+◌, ◌&&◌, not, nat_le, nat_lt, Bool, if◌then◌else◌, List, [], ◌∷◌, ◌++◌, length, map, sum, codes, Result, Ok, Err}
 use Rattle.std.specs.List.{list_any}
 use Rattle.std.specs.Str.{bytes_eq}
-use Rattle.scenario.specs.ClnpBase.Text.{lines_of, words_of}
+use Rattle.scenario.specs.ClnpBase.Text.{lines_of, words_of, is_skipped}
 use Rattle.fair_reassembly.specs.Reassembly.declared.table.TableLimits.{TableLimits}
 use Rattle.fair_reassembly.specs.declared.came.Came.{Came}
 use Rattle.fair_reassembly.specs.declared.share.Share.{Share}
@@ -12,7 +12,7 @@ use Rattle.scenario.specs.declared.code.Code.{Code}
 use Rattle.scenario.specs.declared.code.Code.TheVariants as bad
 use Rattle.scenario.specs.Codes.{number_of}
 use Rattle.scenario.specs.Grammar.{BadLine, ReadTo, at_line, is_line_of, nothing_after}
-use Rattle.scenario.specs.Words.{◌>>=◌, address_word, five_words, found, frame_word, is_skipped, literal, number_word, two_words, wanted}
+use Rattle.scenario.specs.Words.{◌>>=◌, address_word, five_words, found, frame_word, literal, number_word, two_words, wanted}
 
 -- What a text says: the numbers of the tables, the sources that have a share, and the frames in the order in which they came.
 pub record Capture : Type 0 where

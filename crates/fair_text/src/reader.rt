@@ -13,8 +13,8 @@ use crate::fault::CaptureRefusal;
 use crate::frame_line::next_frame;
 use fair_reassembly::reassembly::TableLimits;
 use fair_reassembly::{Came, Share};
-use scenario::clnp_base::{DigitValues, next_line, same};
-use scenario::word::{is_line_of, is_skipped};
+use scenario::clnp_base::{DigitValues, is_skipped, next_line, same};
+use scenario::word::is_line_of;
 use scenario::{Code, LineFault};
 use std::alloc::Global;
 

@@ -1,8 +1,7 @@
 //! The command `run`: the system of a scenario on a board of links, for so many turns.
-ghost use Rattle.std.specs.Prelude.{◌≡◌, ◌≢◌, ◌≤◌, ◌⊎◌, [], length, Err, OnOk, OnErr, IfSome};
+ghost use Rattle.std.specs.Prelude.{◌≡◌, ◌≤◌, length, Err};
 ghost use Rattle.command_base.specs.ClnpBase.Streams.{Rose};
 ghost use Rattle.command_base.specs.ComesAs.{most_input};
-ghost use Rattle.command_base.specs.Reading.{ReadsWhole, TakesTooMany, TakesWithin};
 ghost use Rattle.live_commands.specs.Advised.{IsAdvised};
 ghost use Rattle.live_commands.specs.Serves.{RunEndsAs, ServesRun, TextComesTo};
 ghost use Rattle.live_node.specs.Ran.{RanOf};
@@ -19,9 +18,9 @@ use std::alloc::Global;
 /// The most octets of an input.
 const MOST_INPUT: usize = 16_777_216;
 
-/// Reads a scenario of one system, which has a port for each link of the board, and runs that system over them for so many
-/// turns: what it writes is the system's journal. Nothing is written, no link is called and the clock isn't read before the whole
-/// text was accepted.
+/// Reads a scenario of one system, which has a port for each link of the board, and runs that system over them for so
+/// many turns: what it writes is the system's journal. Nothing is written, no link is called and the clock isn't read
+/// before the whole text was accepted.
 ///
 /// `advice` gets what the author of a refused text is told beside its first bad line, and else stays as it is.
 pub fn run_system<S: Source, K: Sink, C: Clock, B: Ports>(
@@ -33,7 +32,8 @@ pub fn run_system<S: Source, K: Sink, C: Clock, B: Ports>(
     sink: &mut K,
     advice: &mut Advice,
 ) -> Status
-    ensures later { (S.faults source.old ≤ S.faults source.new) × (K.faults sink.old ≤ K.faults sink.new) × (C.last clock.old ≤ C.last clock.new) }
+    ensures later { (S.faults source.old ≤ S.faults source.new) × (K.faults sink.old ≤ K.faults sink.new)
+        × (C.last clock.old ≤ C.last clock.new) }
     ensures serves { ServesRun turns (S.left source.old) (S.left source.new) (K.written sink.old) (K.written sink.new)
         (B.ports board.old) (B.ports board.new) (C.moments clock.old) (C.moments clock.new)
         ((sink.new ≡ sink.old) × ((board.new ≡ board.old) × (clock.new ≡ clock.old)))
@@ -89,7 +89,8 @@ fn run_scenario<K: Sink, C: Clock, B: Ports>(
 ) -> Status
     requires { IsForBoard (length (B.ports board.old)) scenario.now }
     ensures later { (K.faults sink.old ≤ K.faults sink.new) × (C.last clock.old ≤ C.last clock.new) }
-    ensures ran { RunEndsAs result (RanOf scenario.now turns (C.moments clock.old) (C.moments clock.new) (B.ports board.old) (B.ports board.new)
+    ensures ran { RunEndsAs result (RanOf scenario.now turns (C.moments clock.old) (C.moments clock.new)
+        (B.ports board.old) (B.ports board.new)
         (K.written sink.old) (K.written sink.new)) }
     ensures failed { result ≡ Status.WriteFault → Rose (K.faults sink.old) (K.faults sink.new) }
 {

@@ -5,14 +5,14 @@ use Rattle.std.specs.Prelude.{if◌then◌else◌, Result, Ok, Err, OnErr, OnOk}
 use Rattle.std.specs.Result.{is_err}
 use Rattle.std.specs.Io.KnownBytes.{Appends}
 use Rattle.clnp_machine.specs.Step.{step}
-use Rattle.clnp_machine.specs.System.{Input, Output, Notes, Transmits, SendsEsis, Effect, number_behind}
+use Rattle.clnp_machine.specs.System.{Input, Output, Notes, Transmits, SendsEsis, number_behind}
 use Rattle.clnp_machine.specs.EsisPdus.Spelling.{spelling}
 use Rattle.clnp_machine.specs.Unit.{wire}
 use Rattle.link_board.specs.ClnpBase.Streams.{AppendsFront}
 use Rattle.link_board.specs.Links.{CameFrame}
 use Rattle.link_board.specs.Ports.{PortState}
 use Rattle.live_model.specs.Lines.{NodeLine, lines_text, node_line_text}
-use Rattle.live_model.specs.Node.{Node, Outcome, Played, Goes, Ends, Strays, Sending, and_then, behind, come_all, comes, frame_at, has_link, looks_at, looks_at_each, polls, ports_of, puts_all_out, puts_out, sees, takes_effect, transmits}
+use Rattle.live_model.specs.Node.{Node, Outcome, Played, Goes, Ends, Strays, Sending, and_then, behind, come_all, comes, frame_at, has_link, looks_at, looks_at_each, polls, ports_of, puts_all_out, puts_out, sees, transmits}
 use Rattle.live_model.specs.Parts.{UsesAll}
 use Rattle.live_model.specs.Turn.{takes_turn}
 use Rattle.live_node.specs.declared.node.LiveNode.{LiveNode}

@@ -1,5 +1,5 @@
 -- Turns, one after another.
-use Rattle.std.proofs.Common.{◌≡◌, ◌≤◌, ◌+◌, ◌∙◌, ℕ, Bool, true, false, ◌||◌, List, [], ◌∷◌, ◌++◌, length, map, take, Option, Err, refl, sym, ap, subst, append_assoc, append-nil, length-append, arith}
+use Rattle.std.proofs.Common.{◌≡◌, ◌≤◌, ◌+◌, ◌∙◌, ℕ, Bool, true, false, ◌||◌, List, [], ◌∷◌, ◌++◌, length, take, Option, Err, refl, sym, ap, subst, append_assoc, append-nil, length-append, arith}
 use Rattle.std.specs.Prelude.{if◌then◌else◌}
 use Rattle.std.specs.List.{AllByRecursion, list_any}
 use Rattle.std.specs.Io.KnownBytes.{Appends}
@@ -23,8 +23,8 @@ use Rattle.live_node.specs.declared.run.RunStop.{RunStop}
 use Rattle.live_node.specs.declared.run.RunStop.TheVariants.{WriteFault, LinksGone, NoMemory}
 use Rattle.live_node.specs.Links.{PortsWent}
 use Rattle.live_node.specs.Plays as plays
-use Rattle.live_node.specs.Plays.{Plays, Stands, attached_of, lines_by, taken_by_then}
-use Rattle.live_node.specs.Ran.{EndsAs, EndsWithoutLinks, GivesMoments, HasNoLink, IsBrokenOff, IsDetached, IsSome, RanTo, StopsIn, broken_by, has_any_attached, taken_in}
+use Rattle.live_node.specs.Plays.{Plays, Stands, lines_by, taken_by_then}
+use Rattle.live_node.specs.Ran.{EndsAs, GivesMoments, HasNoLink, IsBrokenOff, IsDetached, IsSome, RanTo, StopsIn, broken_by, has_any_attached, taken_in}
 use Rattle.live_node.proofs.Playing.{appends_both, text_both}
 use Rattle.live_node.proofs.Ports.{ports_both, ports_same}
 

@@ -1,10 +1,10 @@
 -- The outputs of a step of a system go out as those of the model.
-use Rattle.std.proofs.Common.{◌≡◌, ℕ, List, [], ◌∷◌, ◌++◌, inl, inr, refl, sym, ap, ◌∙◌, subst, Some}
+use Rattle.std.proofs.Common.{◌≡◌, ℕ, List, [], ◌∷◌, ◌++◌, inl, inr, sym, ap, ◌∙◌, subst, Some}
 use Rattle.clnp_machine.specs.ClnpPlan.declared.config.Role.{Role}
 use Rattle.clnp_machine.specs.ClnpPlan.declared.output.Output.{Output}
 use Rattle.clnp_machine.specs.ClnpPlan.declared.output.Output.TheVariants.{Transmit, Note}
 use Rattle.clnp_machine.specs.Content.{Content}
-use Rattle.clnp_machine.specs.Given.{Appends, GiveAll, Gives}
+use Rattle.clnp_machine.specs.Given.{GiveAll, Gives}
 use Rattle.clnp_machine.specs.System as machine
 use Rattle.clnp_systems.specs.SystemEntity.Steps.{AppendsOf, input_with}
 use Rattle.clnp_systems.specs.SystemEntity.declared.input.Input.{Input}

@@ -13,15 +13,15 @@ use Rattle.link_board.specs.ClnpBase.Streams.{AppendsFront}
 use Rattle.link_board.specs.Ports.{PortState}
 use Rattle.scenario.specs.Scenario.{Plan}
 use Rattle.live_model.specs.Lines.{lines_text}
-use Rattle.live_model.specs.Node.{Node, Outcome, Sending}
+use Rattle.live_model.specs.Node.{Node, Sending}
 use Rattle.live_model.specs.Turn.{Due, dues_from}
 use Rattle.live_model.specs.Course.{Course, Runs, Transcript, Turn, course, first_node, journal, node_run, outcomes_of, run_of}
 use Rattle.live_node.specs.declared.node.LiveNode.{LiveNode}
 use Rattle.live_node.specs.declared.run.RunStop.{RunStop}
 use Rattle.live_node.specs.declared.run.RunStop.TheVariants.{WriteFault, LinksGone, NoMemory}
 use Rattle.live_node.specs.Links.{PortsWent}
-use Rattle.live_node.specs.Plays.{Stands, attached_of}
-use Rattle.live_node.specs.Ran.{EndsAs, IsBroken, IsBrokenOff, IsSome, IsWhole, RanOf, RanTo, RunsAll, StopsIn, taken_in}
+use Rattle.live_node.specs.Plays.{attached_of}
+use Rattle.live_node.specs.Ran.{EndsAs, IsBroken, IsBrokenOff, IsSome, IsWhole, RanOf, RanTo, StopsIn, taken_in}
 use Rattle.live_node.proofs.Courses.{front_behind, front_none}
 use Rattle.live_node.proofs.Ports.{ports_same}
 

@@ -1,5 +1,5 @@
 -- What one call on a port's link comes to, one output, and one thing that comes to the system.
-use Rattle.std.proofs.Common.{◌≡◌, ◌≢◌, ℕ, zero, suc, ◌+◌, ◌<◌, ◌≤◌, Bool, true, false, List, [], ◌∷◌, ◌++◌, length, map, drop, get_or, add-one, Option, Some, None, refl, sym, ap, ◌∙◌, subst, append_assoc, append-nil, arith}
+use Rattle.std.proofs.Common.{◌≡◌, ◌≢◌, ℕ, zero, suc, ◌+◌, ◌<◌, ◌≤◌, Bool, true, false, List, [], ◌∷◌, ◌++◌, length, drop, get_or, add-one, Option, Some, None, refl, sym, ap, ◌∙◌, subst, append-nil, arith}
 use Rattle.std.proofs.KnownBytes.{Appends-nil}
 use Rattle.std.proofs.lemmas.List.{length-map}
 use Rattle.std.proofs.lemmas.Option.{slice_get_past}
@@ -33,12 +33,12 @@ use Rattle.live_model.specs.Lines.{LinkGone, NodeLine, Says, lines_text, node_li
 use Rattle.live_model.specs.Node.{Node, Outcome, Saw, LookFailed, Took, SendFailed, Played, Goes, Ends, Strays, Sending, counted, detached, gives, has_link, is_on, looks_at, looks_by, loss, polls, ports_of, puts_out, sees, transmission, transmits}
 use Rattle.live_model.specs.Parts.{UsesAll}
 use Rattle.live_node.specs.declared.node.LiveNode.{LiveNode}
-use Rattle.live_node.specs.Links.{LinkGoes, LinkWent, PortWent, PortsWent, looks_in, taken_by}
+use Rattle.live_node.specs.Links.{LinkGoes, LinkWent, PortWent, PortsWent, looks_in}
 use Rattle.live_node.specs.Outputs.{GoesOut, PutAllOut, PutsOut}
 use Rattle.live_node.specs.Plays.{Breaks, Plays, Stands, attached_of, lines_by, taken_by_then}
-use Rattle.live_node.proofs.Breaking.{breaks_as, breaks_last, breaks_line, idle_output, idle_transmits}
+use Rattle.live_node.proofs.Breaking.{breaks_last, breaks_line, idle_output, idle_transmits}
 use Rattle.live_node.proofs.Given.{gave_out}
-use Rattle.live_node.proofs.Playing.{appends_both, appends_line, plays_as, plays_line}
+use Rattle.live_node.proofs.Playing.{appends_both, appends_line, plays_line}
 use Rattle.live_node.proofs.Ports.{OnlyAt, port_changed, ports_both, ports_same}
 
 -- ---- numbers and places

@@ -1,7 +1,5 @@
 -- The outputs of a system of the code, as a live node puts them out, and those of the model.
 use Rattle.std.specs.Prelude.{◌≡◌, ℕ, List, [], ◌∷◌}
-use Rattle.clnp_systems.specs.Stands as clnp_systems
-use Rattle.live_model.specs.Node.{Node}
 use Rattle.clnp_machine.specs.ClnpPlan.declared.output.Output.{Output}
 use Rattle.clnp_machine.specs.ClnpPlan.declared.output.Output.TheVariants.{Transmit, Note}
 use Rattle.clnp_machine.specs.ClnpPlan.declared.output.Sending as plan_sending

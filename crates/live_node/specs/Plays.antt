@@ -1,6 +1,6 @@
 -- What a part of a run with ports and a sink comes to: there are outcomes by which the model plays it, and they are those of the
 -- ports' links.
-use Rattle.std.specs.Prelude.{◌≡◌, ℕ, Bool, List, [], ◌∷◌, ◌++◌, map, Option}
+use Rattle.std.specs.Prelude.{◌≡◌, ℕ, Bool, List, [], ◌++◌, map, Option}
 use Rattle.std.specs.Io.KnownBytes.{Appends}
 use Rattle.link_board.specs.Ports.{PortState}
 use Rattle.clnp_systems.specs.Stands as clnp_systems

@@ -9,7 +9,7 @@ use Rattle.scenario.specs.Scenario.{Plan}
 use Rattle.live_model.specs.Lines.{NodeLine, lines_text}
 use Rattle.live_model.specs.Node.{Node, Sending}
 use Rattle.live_model.specs.Turn.{Due}
-use Rattle.live_model.specs.Course.{Course, Runs, IsOver, Breaks, IsNone, Transcript, Turn, course, course_behind, is_over, journal, moments_of, node_run, outcomes_of}
+use Rattle.live_model.specs.Course.{Course, Runs, IsOver, Breaks, IsNone, Transcript, Turn, course, course_behind, journal, moments_of, node_run, outcomes_of}
 use Rattle.live_node.specs.Links.{PortsWent}
 use Rattle.live_node.specs.Plays.{Stands, attached_of}
 use Rattle.live_node.specs.declared.node.LiveNode.{LiveNode}

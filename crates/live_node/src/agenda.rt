@@ -1,5 +1,5 @@
 //! Which events of a scenario a node has still to do.
-ghost use Rattle.std.specs.Prelude.{◌≡◌, ◌≤◌, ◌<◌, ◌+◌, ◌^◌, length, slice_get, Some};
+ghost use Rattle.std.specs.Prelude.{◌≡◌, ◌<◌, ◌+◌, ◌^◌};
 ghost use Rattle.scenario.specs.Scenario.{ticks_of};
 
 use scenario::Event;

@@ -1,6 +1,5 @@
 //! The lines of a node's journal: each is written at once.
-ghost use Rattle.std.specs.Prelude.{◌≡◌, ◌≤◌, ◌++◌, [], ◌∷◌, OnOk, OnErr, IfOk, Err, codes, length};
-ghost use Rattle.std.specs.Fmt.{decimal};
+ghost use Rattle.std.specs.Prelude.{◌≡◌, ◌≤◌, OnOk, OnErr, IfOk, Err};
 ghost use Rattle.std.specs.Io.KnownBytes.{Appends};
 ghost use Rattle.clnp_machine.specs.ClnpBase.Streams.{AppendsFront, Rose};
 ghost use Rattle.clnp_machine.specs.ClnpPlan.Journal.{Noted, Transmitted};

@@ -11,9 +11,8 @@ use Rattle.hex.specs.declared.error.FromHexError.{FromHexError}
 use Rattle.hex.proofs.HexLemmas.{decode_of-ok}
 use Rattle.captures.specs.Nsap.Text.{octets_of}
 use Rattle.captures.specs.Nsap.declared.fault.NsapFault.{NsapFault}
-use Rattle.captures.specs.Captures.{is_skipped}
 use Rattle.pcap_frames.proofs.Nsap.HexTextFacts.{IsAddress-octets_of}
-use Rattle.command_base.specs.ClnpBase.Text.{decimal_of, ends_word, onto_first, words_of}
+use Rattle.command_base.specs.ClnpBase.Text.{decimal_of, ends_word, onto_first, words_of, is_skipped}
 use Rattle.pcap_frames.specs.Groups.{end_systems, intermediate_systems}
 use Rattle.pcap_frames.specs.Making.{Frame, HasBytes, IsFrame}
 use Rattle.pcap_commands.specs.Stations.{destination_of, six_octets, station_of}

@@ -11,10 +11,9 @@ use Rattle.command_base.specs.ByLine.{Bad, Good, PushOf, task_of}
 use Rattle.command_base.specs.ComesAs.{ComesAs}
 use Rattle.command_base.specs.Output.{AppendsCalled}
 use Rattle.command_base.specs.ClnpBase.Streams.{AppendsFront}
-use Rattle.command_base.specs.ClnpBase.Text.{words_of}
+use Rattle.command_base.specs.ClnpBase.Text.{words_of, is_skipped}
 use Rattle.command_base.proofs.ByLine.{Breaks, Total}
 use Rattle.command_base.proofs.Fronts.{front-behind, front-longer}
-use Rattle.captures.specs.Captures.{is_skipped}
 use Rattle.pcap_frames.specs.declared.order.Order.TheVariants.{HighFirst}
 use Rattle.pcap_frames.specs.File.{captured_octets, header_octets}
 use Rattle.pcap_frames.specs.Making.{Frame, made_file, made_header, made_record}

@@ -10,8 +10,7 @@ use Rattle.std.proofs.lemmas.Option.{none-some, same_Some}
 use Rattle.hex.specs.Hex.{IsBytes, decode_of}
 use Rattle.hex.proofs.HexLemmas.{decode_of-encode_lower, decode_of-ok}
 use Rattle.captures.specs.Nsap.Text.{hex_text}
-use Rattle.captures.specs.Captures.{is_skipped}
-use Rattle.command_base.specs.ClnpBase.Text.{decimal_of, lines_of, words_of}
+use Rattle.command_base.specs.ClnpBase.Text.{decimal_of, lines_of, words_of, is_skipped}
 use Rattle.command_base.specs.declared.status.Status.{Status}
 use Rattle.command_base.specs.declared.status.Status.TheVariants as status
 use Rattle.command_base.proofs.ClnpBase.Reading.{IsWithinLine, lines_of-line}

@@ -6,28 +6,29 @@ use Rattle.pcap_frames.specs.File.{Captured}
 use Rattle.pcap_frames.specs.Reading.{Ending, Entire, CutOff, Faulty, IsReadAs}
 use Rattle.command_base.specs.declared.status.Status.{Status}
 use Rattle.command_base.specs.declared.status.Status.TheVariants.{Done, TooLong, BadInput}
+use Rattle.command_base.specs.Codes.{cut_file_code, link_type_code, magic_code, record_length_code, version_code}
 
 -- the most octets of a file
 abbrev pub most_octets : ℕ
 most_octets = 1073741824
 
 -- The answer to a fault behind so many whole records: the number of the record at fault, from 1, or 0 for the header; and
--- the code, 11 for the magic number, 12 for the version, 13 for the link type, 14 for a record's captured length.
+-- the code.
 abbrev pub fault_status : (whole : ℕ) → PcapFault → Status
-fault_status whole Magic = BadInput 0 11
-fault_status whole (Version major minor) = BadInput 0 12
-fault_status whole (LinkType link) = BadInput 0 13
-fault_status whole (RecordLength captured) = BadInput (whole + 1) 14
+fault_status whole Magic = BadInput 0 magic_code
+fault_status whole (Version major minor) = BadInput 0 version_code
+fault_status whole (LinkType link) = BadInput 0 link_type_code
+fault_status whole (RecordLength captured) = BadInput (whole + 1) record_length_code
 
 -- the number of the record within which so many octets end behind so many whole records, or 0 where they end within the
 -- header, which has 24 octets
 abbrev pub cut_place : (size whole : ℕ) → ℕ
 cut_place size whole = if nat_lt size 24 then 0 else whole + 1
 
--- the answer to so many octets that are all, with so many whole records in them; 15 is the code of a file that is cut
+-- the answer to so many octets that are all, with so many whole records in them
 abbrev pub whole_status : (size whole : ℕ) → Ending → Status
 whole_status size whole Entire = Done
-whole_status size whole (CutOff count) = BadInput (cut_place size whole) 15
+whole_status size whole (CutOff count) = BadInput (cut_place size whole) cut_file_code
 whole_status size whole (Faulty fault) = fault_status whole fault
 
 -- the answer where more octets follow than a file may have

@@ -3,12 +3,12 @@ use Rattle.std.specs.Prelude.{◌≡◌, ℕ, ◌+◌, ◌^◌, nat_lt, if◌the
 use Rattle.std.specs.Io.KnownBytes.{Appends}
 use Rattle.hex.specs.Hex.{decode_of}
 use Rattle.hex.specs.declared.error.FromHexError.{FromHexError}
-use Rattle.captures.specs.Captures.{is_skipped}
 use Rattle.command_base.specs.ClnpBase.Streams.{AppendsFront}
-use Rattle.command_base.specs.ClnpBase.Text.{decimal_of, words_of}
+use Rattle.command_base.specs.ClnpBase.Text.{decimal_of, words_of, is_skipped}
 use Rattle.command_base.specs.declared.status.Status.{Status}
 use Rattle.command_base.specs.declared.status.Status.TheVariants as status
 use Rattle.command_base.specs.ByLine.{Work}
+use Rattle.command_base.specs.Codes.{address_code, count_code, number_code, syntax_code}
 use Rattle.command_base.specs.ComesAs.{Task}
 use Rattle.pcap_frames.specs.declared.order.Order.TheVariants.{HighFirst}
 use Rattle.pcap_frames.specs.File.{all_captured}
@@ -28,14 +28,14 @@ seconds_in (Some seconds) = if nat_lt seconds (2 ^ 32) then Some seconds else No
 
 -- the PDU that hexadecimal digits spell, of at most as many octets as a frame carries, or the code of what they break
 abbrev pub pdu_of : Result (List ℕ) FromHexError → Result (List ℕ) ℕ
-pdu_of (Err fault) = Err 4
-pdu_of (Ok octets) = if nat_lt 1497 (length octets) then Err 10 else Ok octets
+pdu_of (Err fault) = Err address_code
+pdu_of (Ok octets) = if nat_lt 1497 (length octets) then Err count_code else Ok octets
 
 -- what its words make of a line: the first of them that is wrong, or a frame
 abbrev pub frame_read : (seconds : Option ℕ) → (to from : Option (List ℕ)) → (pdu : Result (List ℕ) ℕ) → FrameLine
-frame_read None to from pdu = Malformed 3
-frame_read (Some seconds) None from pdu = Malformed 4
-frame_read (Some seconds) (Some to) None pdu = Malformed 4
+frame_read None to from pdu = Malformed number_code
+frame_read (Some seconds) None from pdu = Malformed address_code
+frame_read (Some seconds) (Some to) None pdu = Malformed address_code
 frame_read (Some seconds) (Some to) (Some from) (Err code) = Malformed code
 frame_read (Some seconds) (Some to) (Some from) (Ok pdu) = Makes (record { seconds = seconds; to = to; from = from; pdu = pdu })
 
@@ -55,7 +55,7 @@ four_of (seconds ∷ to ∷ from ∷ pdu ∷ []) = Some (record { seconds = seco
 four_of (seconds ∷ to ∷ from ∷ pdu ∷ fifth ∷ others) = None
 
 abbrev pub frame_of_words : Option FourWords → FrameLine
-frame_of_words None = Malformed 2
+frame_of_words None = Malformed syntax_code
 frame_of_words (Some w) =
     frame_read (seconds_in (decimal_of w.seconds)) (destination_of w.to) (station_of w.from) (pdu_of (decode_of w.pdu))
 

@@ -1,5 +1,5 @@
 //! The line of a frame read.
-ghost use Rattle.std.specs.Prelude.{◌≡◌, ◌≤◌, [], IfOk, MatchOption, None, Some, length};
+ghost use Rattle.std.specs.Prelude.{◌≡◌, [], IfOk, MatchOption, None, Some};
 ghost use Rattle.hex.specs.Hex.{decode_of};
 ghost use Rattle.command_base.specs.ClnpBase.Text.{decimal_of, words_of};
 ghost use Rattle.pcap_frames.specs.Making.{IsFrame};
@@ -9,19 +9,8 @@ ghost use Rattle.pcap_commands.specs.ReadLine.{PduOf, ReadOf, frame_value, words
 use crate::stations::{read_destination, read_station};
 use command_base::LineFault;
 use command_base::clnp_base::{HexFault, decimal, next_word, push_unhex};
+use command_base::code::{ADDRESS, COUNT, NUMBER, SYNTAX};
 use pcap_frames::nsap::Snpa;
-
-/// The code of another number of words.
-const WORDS: u8 = 2;
-
-/// The code of seconds that are none.
-const SECONDS: u8 = 3;
-
-/// The code of an address or of digits that are none.
-const DIGITS: u8 = 4;
-
-/// The code of too many octets.
-const COUNT: u8 = 10;
 
 /// The most octets of a PDU in a frame.
 const MOST_PDU: usize = 1497;
@@ -46,30 +35,30 @@ struct LineWords<'a> {
     pdu: &'a [u8],
 }
 
-/// Reads the line of a frame, `SECONDS DST SRC HEX`: appends the octets of its PDU to `pdu`, which is empty, and gives the
-/// rest.
+/// Reads the line of a frame, `SECONDS DST SRC HEX`: appends the octets of its PDU to `pdu`, which is empty, and gives
+/// the rest.
 ///
 /// # Errors
 ///
-/// The code of the first word that is wrong, or `NoMemory`: 2 for another number of words, 3 for seconds that are no decimal
-/// below 2^32, 4 for a destination or a source that is none, and for digits that aren't two an octet, 10 for more than
-/// 1,497 octets.
+/// The code of the first word that is wrong, or `NoMemory`: `SYNTAX` for another number of words, `NUMBER` for seconds
+/// that are no decimal below 2^32, `ADDRESS` for a destination or a source that is none, and for digits that aren't two
+/// an octet, `COUNT` for more than 1,497 octets.
 pub(crate) fn read_frame(line: &[u8], pdu: &mut Vec<u8>) -> Result<Envelope, LineFault>
     requires { pdu.old.items ≡ [] }
     ensures read { ReadOf (frame_of_words (four_of (words_of line.now))) pdu.new.items result }
     ensures frame { IfOk result (λ envelope. IsFrame (frame_value envelope pdu.new.items)) }
 {
     let Some(words) = four_words(line) else {
-        return Err(LineFault::Bad { code: WORDS });
+        return Err(LineFault::Bad { code: SYNTAX });
     };
     let Some(seconds) = read_seconds(words.seconds) else {
-        return Err(LineFault::Bad { code: SECONDS });
+        return Err(LineFault::Bad { code: NUMBER });
     };
     let Some(to) = read_destination(words.to) else {
-        return Err(LineFault::Bad { code: DIGITS });
+        return Err(LineFault::Bad { code: ADDRESS });
     };
     let Some(from) = read_station(words.from) else {
-        return Err(LineFault::Bad { code: DIGITS });
+        return Err(LineFault::Bad { code: ADDRESS });
     };
     match read_pdu(words.pdu, pdu) {
         Ok(()) => Ok(Envelope { seconds, to, from }),
@@ -113,7 +102,7 @@ fn read_pdu(digits: &[u8], pdu: &mut Vec<u8>) -> Result<(), LineFault>
     match push_unhex(digits, pdu) {
         Ok(()) => {}
         Err(HexFault::NoMemory) => return Err(LineFault::NoMemory),
-        Err(_) => return Err(LineFault::Bad { code: DIGITS }),
+        Err(_) => return Err(LineFault::Bad { code: ADDRESS }),
     }
     if pdu.len() > MOST_PDU {
         return Err(LineFault::Bad { code: COUNT });

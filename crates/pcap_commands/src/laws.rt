@@ -33,8 +33,8 @@ pub fn one_output()
     shown::one_line();
 }
 
-/// Of the lines that `pcap-lines` writes of a file `pcap-make` makes a file with the same OSI frames in their order, but for
-/// those whose PDU has no octets.
+/// Of the lines that `pcap-lines` writes of a file `pcap-make` makes a file with the same OSI frames in their order,
+/// but for those whose PDU has no octets.
 pub fn lines_make_the_frames_again()
     ensures accepted { (octets output : List ℕ) (records : List Captured) (ending : Ending) → IsBytes octets
         → IsReadAs octets records ending → TellsRecords Form.Remade 1 records output
@@ -44,9 +44,9 @@ pub fn lines_make_the_frames_again()
         → frames_of (lines_of output) ≡ frames_in records }
 {}
 
-/// Of the file that `pcap-make` makes of lines `pcap-lines` writes the lines of its frames, and nothing else: of each its
-/// seconds in decimal digits without leading zeros, its destination as `es`, `is` or twelve digits in lower case, its
-/// source as twelve, and its PDU in digits in lower case, with one space between them.
+/// Of the file that `pcap-make` makes of lines `pcap-lines` writes the lines of its frames, and nothing else: of each
+/// its seconds in decimal digits without leading zeros, its destination as `es`, `is` or twelve digits in lower case,
+/// its source as twelve, and its PDU in digits in lower case, with one space between them.
 pub fn a_made_file_gives_its_lines_again()
     ensures frames { (lines : List (List ℕ)) → AllByRecursion IsFrame (frames_of lines) }
     ensures bytes { (lines : List (List ℕ)) → AllByRecursion HasBytes (frames_of lines) }

@@ -1,5 +1,5 @@
-//! The commands on Ethernet captures in pcap files: the records of a file told as lines while it is read, and a file made
-//! of lines.
+//! The commands on Ethernet captures in pcap files: the records of a file told as lines while it is read, and a file
+//! made of lines.
 #![tactic(auto)]
 
 mod answer;

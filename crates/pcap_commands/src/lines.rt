@@ -2,9 +2,8 @@
 ghost use Rattle.std.specs.Prelude.{◌≡◌, ◌∷◌, ◌++◌, [], ℕ, List, OnOk, codes};
 ghost use Rattle.std.specs.Fmt.{decimal};
 ghost use Rattle.captures.specs.Nsap.Text.{hex_text};
-ghost use Rattle.pcap_frames.specs.Frames.{seen_in};
 ghost use Rattle.pcap_frames.specs.View.{captured_value, seen_value};
-ghost use Rattle.pcap_commands.specs.Lines.{ShowsOsi, ShowsSeen, TellsRecord, line_seen};
+ghost use Rattle.pcap_commands.specs.Lines.{ShowsSeen, TellsRecord, line_seen};
 ghost use Rattle.pcap_commands.specs.Stations.{destination_word, frame_line};
 
 use crate::form::Form;

@@ -1,6 +1,5 @@
 //! The command that makes a file of lines.
 ghost use Rattle.std.specs.Prelude.{◌≡◌, ◌≤◌, ◌+◌, ◌∷◌, ◌++◌, [], ℕ, List, Option, Err, OnOk, length};
-ghost use Rattle.captures.specs.Captures.{is_skipped};
 ghost use Rattle.command_base.specs.ClnpBase.Streams.{Rose};
 ghost use Rattle.command_base.specs.ClnpBase.Text.{lines_of};
 ghost use Rattle.command_base.specs.ByLine.{Midway, NextOf, PushOf, task_of};
@@ -12,16 +11,16 @@ ghost use Rattle.pcap_commands.specs.Make.{make_task, making};
 ghost use Rattle.pcap_commands.specs.ReadLine.{frame_value};
 
 use crate::frame_line::{Envelope, read_frame};
-use command_base::clnp_base::{Sink, next_line};
+use command_base::clnp_base::{Sink, is_skipped, next_line};
 use command_base::{LineFault, LineStop, Status, flush, refuse, write_block, write_full_block};
 use pcap_frames::{put_frame, put_header};
 use std::alloc::Global;
 
-/// Writes the file of the frames of lines `SECONDS DST SRC HEX`, up to the first bad line. A line that is empty or begins
-/// with `#` is skipped. Each frame is filled with zeros to 60 octets.
+/// Writes the file of the frames of lines `SECONDS DST SRC HEX`, up to the first bad line. A line that is empty or
+/// begins with `#` is skipped. Each frame is filled with zeros to 60 octets.
 ///
-/// The codes of bad lines are 2 for another number of words, 3 for seconds that are no decimal below 2^32, 4 for a
-/// destination, a source or a PDU that is none, and 10 for a PDU of more than 1,497 octets.
+/// The codes of bad lines are `SYNTAX` for another number of words, `NUMBER` for seconds that are no decimal below
+/// 2^32, `ADDRESS` for a destination, a source or a PDU that is none, and `COUNT` for a PDU of more than 1,497 octets.
 pub fn pcap_make<K: Sink>(alloc: Global, text: &[u8], sink: &mut K) -> Status
     requires { length text.now ≤ most_input }
     ensures later { K.faults sink.old ≤ K.faults sink.new }
@@ -62,8 +61,8 @@ fn make_records<K: Sink>(alloc: Global, text: &[u8], block: &mut Vec<u8>, sink: 
     }
 }
 
-/// Puts the record of the next line into the block, and writes the block where it is full or the line is bad. `pdu` is a
-/// list to use for its PDU.
+/// Puts the record of the next line into the block, and writes the block where it is full or the line is bad. `pdu` is
+/// a list to use for its PDU.
 fn make_next<K: Sink>(
     line: &[u8],
     pdu: &mut Vec<u8>,
@@ -84,7 +83,8 @@ fn make_next<K: Sink>(
 
 /// Puts the record of the frame of a line into the block, if it has one.
 fn push_line(line: &[u8], pdu: &mut Vec<u8>, block: &mut Vec<u8>) -> Result<(), LineFault>
-    ensures { (number : ℕ) → PushOf making number (λ done. number + 1) number line.now block.old.items block.new.items result }
+    ensures { (number : ℕ) → PushOf making number
+        (λ done. number + 1) number line.now block.old.items block.new.items result }
 {
     if is_skipped(line) {
         return Ok(());
@@ -106,15 +106,5 @@ fn put(envelope: &Envelope, pdu: &[u8], block: &mut Vec<u8>) -> Result<(), LineF
     match put_frame(envelope.seconds, &envelope.to, &envelope.from, pdu, block) {
         Ok(()) => Ok(()),
         Err(_) => Err(LineFault::NoMemory),
-    }
-}
-
-/// Whether a line is to be skipped: it is empty or begins with `#`.
-fn is_skipped(line: &[u8]) -> bool
-    ensures { result ≡ is_skipped line.now }
-{
-    match line {
-        [] => true,
-        [first, ..] => *first == b'#',
     }
 }

@@ -1,6 +1,5 @@
 //! Destinations and sources of frames, as words.
-ghost use Rattle.std.specs.Prelude.{◌≡◌, ◌++◌, OnOk, length};
-ghost use Rattle.captures.specs.Nsap.Text.{hex_text};
+ghost use Rattle.std.specs.Prelude.{◌≡◌, ◌++◌, OnOk};
 ghost use Rattle.pcap_commands.specs.Stations.{destination_of, destination_word, station_of};
 
 use command_base::clnp_base::{NoMemory, push, push_hex, same};

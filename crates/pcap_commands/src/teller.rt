@@ -49,8 +49,8 @@ impl Teller {
     ///
     /// # Errors
     ///
-    /// The answer at which telling stops: a fault of the file, whose records before it are written, a fault of the sink, or
-    /// want of memory.
+    /// The answer at which telling stops: a fault of the file, whose records before it are written, a fault of the
+    /// sink, or want of memory.
     pub(crate) fn take<K: Sink>(
         &mut self,
         alloc: Global,
@@ -79,7 +79,8 @@ impl Teller {
         Ok(())
     }
 
-    /// Takes the first octets of a piece that isn't empty, at most up to the end of the next record, and tells that record.
+    /// Takes the first octets of a piece that isn't empty, at most up to the end of the next record, and tells that
+    /// record.
     fn take_some<K: Sink>(
         &mut self,
         alloc: Global,

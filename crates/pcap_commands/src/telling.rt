@@ -21,26 +21,30 @@ const MOST: usize = 1_073_741_824;
 /// How many octets are asked for in one read.
 const CHUNK: usize = 65_536;
 
-/// Writes a line of each record of a file, while it reads the file: `N other`, `N cut`, or `N DST SRC` and the line that
-/// shows the PDU of an OSI frame (ISO 8802-3, ISO 8802-2).
+/// Writes a line of each record of a file, while it reads the file: `N other`, `N cut`, or `N DST SRC` and the line
+/// that shows the PDU of an OSI frame (ISO 8802-3, ISO 8802-2).
 ///
-/// It stops at the first fault of the file. Where no such fault was met, it stops at a fault of the source, or where more
-/// than 1,073,741,824 octets came. In each case the lines of exactly those records were written that came whole before.
+/// It stops at the first fault of the file. Where no such fault was met, it stops at a fault of the source, or where
+/// more than 1,073,741,824 octets came. In each case the lines of exactly those records were written that came whole
+/// before.
 pub fn pcap_show<S: Source, K: Sink>(alloc: Global, source: &mut S, sink: &mut K) -> Status
     ensures later { (S.faults source.old ≤ S.faults source.new) × (K.faults sink.old ≤ K.faults sink.new) }
-    ensures serves { ServesFile Form.Shown (S.left source.old) (S.left source.new) (K.written sink.old) (K.written sink.new)
+    ensures serves { ServesFile Form.Shown (S.left source.old) (S.left source.new)
+        (K.written sink.old) (K.written sink.new)
         (Rose (S.faults source.old) (S.faults source.new)) (Rose (K.faults sink.old) (K.faults sink.new)) result }
 {
     tell_file(alloc, Form::Shown, source, sink)
 }
 
 /// Writes for each OSI frame of a file, while it reads the file, the line of which `pcap-make` makes the frame again,
-/// `SECONDS DST SRC HEX`; and for every other record `# N other`, `# N cut`, or `# N empty` where the PDU has no octets.
+/// `SECONDS DST SRC HEX`; and for every other record `# N other`, `# N cut`, or `# N empty` where the PDU has no
+/// octets.
 ///
 /// It stops where `pcap_show` does.
 pub fn pcap_lines<S: Source, K: Sink>(alloc: Global, source: &mut S, sink: &mut K) -> Status
     ensures later { (S.faults source.old ≤ S.faults source.new) × (K.faults sink.old ≤ K.faults sink.new) }
-    ensures serves { ServesFile Form.Remade (S.left source.old) (S.left source.new) (K.written sink.old) (K.written sink.new)
+    ensures serves { ServesFile Form.Remade (S.left source.old) (S.left source.new)
+        (K.written sink.old) (K.written sink.new)
         (Rose (S.faults source.old) (S.faults source.new)) (Rose (K.faults sink.old) (K.faults sink.new)) result }
 {
     tell_file(alloc, Form::Remade, source, sink)
@@ -67,8 +71,8 @@ fn tell_file<S: Source, K: Sink>(alloc: Global, form: Form, source: &mut S, sink
     }
 }
 
-/// Reads once into `chunk`, and has the teller take what came. Gives the answer where there is one. At most one octet more
-/// comes than a file may have.
+/// Reads once into `chunk`, and has the teller take what came. Gives the answer where there is one. At most one octet
+/// more comes than a file may have.
 fn take_next<S: Source, K: Sink>(
     alloc: Global,
     source: &mut S,
@@ -106,8 +110,8 @@ fn every_frame_is_shown()
     laws::one_line();
 }
 
-/// Has the teller take a piece that came, of which at most one octet is beyond what a file may have; no octets came at the
-/// end of the file alone. Gives the answer where there is one.
+/// Has the teller take a piece that came, of which at most one octet is beyond what a file may have; no octets came at
+/// the end of the file alone. Gives the answer where there is one.
 fn take_piece<K: Sink>(
     alloc: Global,
     piece: &[u8],

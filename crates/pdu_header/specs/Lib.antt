@@ -3,6 +3,7 @@ pub use Rattle.fletcher.specs as Fletcher
 pub use Rattle.nsap.specs as Nsap
 pub use Rattle.clnp_options.specs as ClnpOptions
 pub use Rattle.clnp_views.specs as ClnpViews
+pub mod Kinds
 pub mod Layout
 pub mod Value
 pub mod Segment

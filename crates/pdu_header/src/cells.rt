@@ -28,7 +28,8 @@ pub(crate) fn adjust(cells: &mut InlineOctets<MOST_HEADER>, place: usize, new: u
     requires last { place ≤ length cells.old }
     requires not_octet_8 { place ≢ 8 }
     requires not_octet_9 { place ≢ 9 }
-    ensures changed { (is_sealed : Bool) (plain : List ℕ) → octet plain 8 ≡ 0 → cells.old ≡ checked is_sealed plain → cells.new ≡ checked is_sealed (slice_set plain (place - 1) new) }
+    ensures changed { (is_sealed : Bool) (plain : List ℕ) → octet plain 8 ≡ 0 → cells.old ≡ checked is_sealed plain
+        → cells.new ≡ checked is_sealed (slice_set plain (place - 1) new) }
     ensures len { length cells.new ≡ length cells.old }
 {
     cells.change(0, |head: &mut [u8]| adjusting::adjust(head, place, new));
@@ -40,7 +41,8 @@ pub(crate) fn take_over(cells: &mut InlineOctets<MOST_HEADER>, changed: &[u8], s
     requires behind { 9 ≤ start }
     requires within { start ≤ length cells.old }
     requires len { length changed.now ≡ length cells.old }
-    ensures changed { (is_sealed : Bool) (plain : List ℕ) → octet plain 8 ≡ 0 → cells.old ≡ checked is_sealed plain → cells.new ≡ checked is_sealed (take start plain ++ drop start changed.now) }
+    ensures changed { (is_sealed : Bool) (plain : List ℕ) → octet plain 8 ≡ 0 → cells.old ≡ checked is_sealed plain
+        → cells.new ≡ checked is_sealed (take start plain ++ drop start changed.now) }
     ensures len { length cells.new ≡ length cells.old }
 {
     cells.change(

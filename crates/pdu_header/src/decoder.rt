@@ -11,7 +11,7 @@ ghost use Rattle.pdu_header.specs.Headers.{SpellsHeader};
 ghost use Rattle.pdu_header.specs.Spelling.{header, header_length};
 ghost use Rattle.pdu_header.specs.Value.{PduValue};
 ghost use Rattle.pdu_header.specs.View.{part_value, pdu_value, why_refused};
-ghost use Rattle.std.specs.Prelude.{IfSome, MatchResult, None, Some, ◌^◌, ◌≡◌, ◌+◌, ◌-◌, ◌==◌, ◌<◌, ◌≤◌, ◌↔◌, ℕ, Bool, true, false, List, IfOk, IsTrue, MatchOption, OnErr, OnOk, drop, length, not, option_map, take};
+ghost use Rattle.std.specs.Prelude.{IfSome, MatchResult, None, Some, ◌^◌, ◌≡◌, ◌+◌, ◌-◌, ◌==◌, ◌<◌, ◌≤◌, ℕ, true, false, List, IfOk, MatchOption, OnErr, OnOk, drop, length, option_map};
 
 use crate::kind::Kind;
 use crate::layout::{
@@ -34,7 +34,8 @@ const RESERVED_LENGTH: u8 = 255;
 /// `NotClnp` exactly where the frame is empty or its first octet isn't 0x81; else `Broken` exactly
 /// where it breaks one of the rules G1 to G20 (see `docs/FORMATS.md`), by the least of them.
 pub fn decode(frame: &[u8]) -> Result<Pdu<'_>, Refusal>
-    ensures judged { MatchResult result (λ _. why_refused frame.now ≡ None) (λ refused. why_refused frame.now ≡ Some refused) }
+    ensures judged { MatchResult result (λ _. why_refused frame.now ≡ None)
+        (λ refused. why_refused frame.now ≡ Some refused) }
     ensures accepted { OnOk result ((octet frame.now 1 ≡ 0x81) × (refusal frame.now ≡ None)) }
     ensures found { IfOk result (λ pdu. BeginsWith frame.now (pdu_value pdu) pdu.rest.now) }
     ensures none { OnErr result ((value : PduValue) (rest : List ℕ) → BeginsWith frame.now value rest → ⊥) }
@@ -212,7 +213,8 @@ fn check_fixed_part(head: &[u8]) -> Result<Kind, OptionRefusal>
 fn address_at(head: &[u8], place: usize) -> Option<Address>
     requires first { 1 ≤ place }
     requires last { place ≤ 254 }
-    ensures none { MatchOption result (is_bad_address head.now place ≡ true) (λ _. is_bad_address head.now place ≡ false) }
+    ensures none { MatchOption result (is_bad_address head.now place ≡ true)
+        (λ _. is_bad_address head.now place ≡ false) }
     ensures value { IfSome result (λ address. address ≡ pdu_reading.address_at head.now place) }
     ensures size { IfSome result (λ address. octet head.now place ≡ length address) }
     ensures within { IfSome result (λ address. place + length address ≤ length head.now) }
@@ -366,7 +368,8 @@ fn read_options(head: &[u8], place: usize, kind: Kind) -> Result<&[u8], OptionRe
     requires place { place ≡ options_place head.now }
     requires within { place ≤ length head.now + 1 }
     requires kind { pdu_rules.kind_of (type_of head.now) ≡ Some kind }
-    ensures judged { Gives result (options_refusal (options_part head.now) (options_place head.now) (type_of head.now == 1)) }
+    ensures judged { Gives result
+        (options_refusal (options_part head.now) (options_place head.now) (type_of head.now == 1)) }
     ensures value { IfOk result (λ options. options.now ≡ options_part head.now) }
 {
     let (_, options) = head.split_at(place - 1);

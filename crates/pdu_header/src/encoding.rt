@@ -36,7 +36,8 @@ pub fn encode(
     requires { AreFit parts.now (length body.now) }
     ensures written { OnOk result (out.new.items ≡ out.old.items ++ spelling (parts_value parts.now body.now)) }
     ensures spells { OnOk result (Spells (parts_value parts.now body.now) (spelling (parts_value parts.now body.now))) }
-    ensures refused { MatchResult result (λ _. too_long (parts_length parts.now) (length body.now) ≡ None) (λ refusal. too_long (parts_length parts.now) (length body.now) ≡ length_refused refusal) }
+    ensures refused { MatchResult result (λ _. too_long (parts_length parts.now) (length body.now) ≡ None)
+        (λ refusal. too_long (parts_length parts.now) (length body.now) ≡ length_refused refusal) }
     ensures same { OnErr result (out.new.items ≡ out.old.items) }
 {
     let octets = header_len(parts);

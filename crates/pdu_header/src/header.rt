@@ -1,7 +1,7 @@
 //! Whole headers, made from parts and changed as a router changes them.
 ghost use Rattle.std.specs.Prelude.{◌≡◌, ◌+◌, ◌≤◌, ◌^◌, ◌⊎◌, ℕ, Bool, List, length, if◌then◌else◌, bit_and, bit_or, option_map, None, Some, IfOk, MatchResult};
 ghost use Rattle.fletcher.specs.Checksum.{octet};
-ghost use Rattle.pdu_header.specs.Value.{SegmentationPart, PduValue};
+ghost use Rattle.pdu_header.specs.Value.{PduValue};
 ghost use Rattle.clnp_options.specs.Parameter.{parameters, source_route, recording, quality};
 ghost use Rattle.clnp_options.specs.Rules.{IsWellFormed};
 ghost use Rattle.clnp_options.specs.Edits.{edited, target_of, is_complete, advanced, recorded, marked};
@@ -77,8 +77,10 @@ impl Header {
     pub fn make(parts: &Parts, body_len: usize) -> Result<Header, HeaderRefusal>
         requires fit { AreFit parts.now body_len }
         requires few { body_len ≤ 2 ^ 31 }
-        ensures spells { IfOk result (λ header. (body : List ℕ) → length body ≡ body_len → SpellsHeader (parts_value parts.now body) header) }
-        ensures refused { MatchResult result (λ _. too_long (parts_length parts.now) body_len ≡ None) (λ refusal. too_long (parts_length parts.now) body_len ≡ Some refusal) }
+        ensures spells { IfOk result (λ header. (body : List ℕ) → length body ≡ body_len
+            → SpellsHeader (parts_value parts.now body) header) }
+        ensures refused { MatchResult result (λ _. too_long (parts_length parts.now) body_len ≡ None)
+            (λ refusal. too_long (parts_length parts.now) body_len ≡ Some refusal) }
     {
         let octets = header_len(parts);
         if octets > MOST_HEADER {
@@ -156,8 +158,8 @@ impl Header {
         put_pair(&mut self.cells, part + 3, offset);
     }
 
-    /// The title to which the source route leads next (ISO 8473, section 7.5.4); none where there is no source route, or
-    /// it is exhausted.
+    /// The title to which the source route leads next (ISO 8473, section 7.5.4); none where there is no source route,
+    /// or it is exhausted.
     pub fn route_target(&self) -> Option<Address>
         ensures { (v : PduValue) → SpellsHeader v self.now → result ≡ target_of v.options }
     {

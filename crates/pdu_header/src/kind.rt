@@ -1,4 +1,5 @@
-//! The kinds of PDUs, and the types that stand for them in a header.
+//! The kinds of PDUs, the types that stand for them in a header, and the words that name them in lines of text.
+ghost use Rattle.pdu_header.specs.Kinds.{kind_word};
 ghost use Rattle.pdu_header.specs.Layout as layout;
 ghost use Rattle.pdu_header.specs.Rules as pdu_rules;
 ghost use Rattle.std.specs.Prelude.{◌≡◌};
@@ -39,6 +40,18 @@ impl Kind {
             Kind::Dt => 28,
             Kind::Erq => 30,
             Kind::Erp => 31,
+        }
+    }
+
+    /// The word by which lines of text name this kind.
+    pub fn word(self) -> &'static [u8]
+        ensures { result.now ≡ kind_word self }
+    {
+        match self {
+            Kind::Dt => b"dt",
+            Kind::Er => b"er",
+            Kind::Erq => b"erq",
+            Kind::Erp => b"erp",
         }
     }
 }

@@ -75,13 +75,17 @@ pub fn the_least_broken_rule_is_told()
 /// A header has its length, which the lengths of its parts make up.
 pub fn a_header_has_its_length()
     ensures header { (v : PduValue) → length (header v) ≡ header_length v }
-    ensures parts { (v : PduValue) → header_length v ≡ 11 + length v.destination + length v.source + length (segmentation_octets v.segmentation) + length (spelled v.options) }
+    ensures parts { (v : PduValue) → header_length v
+        ≡ 11 + length v.destination + length v.source + length (segmentation_octets v.segmentation)
+        + length (spelled v.options) }
 {}
 
-/// The test of a range of data says what fits, and more follows a PDU's data exactly where its unit goes on behind them.
+/// The test of a range of data says what fits, and more follows a PDU's data exactly where its unit goes on behind
+/// them.
 pub fn more_follows_where_the_unit_goes_on()
     ensures test { (head_len data_len : ℕ) (more : Bool) (part : SegmentationPart)
-        → (is_unfit_range head_len part.total (part.offset + data_len) more ≡ false) ↔ FitsRange head_len data_len more part }
+        → (is_unfit_range head_len part.total (part.offset + data_len) more ≡ false)
+        ↔ FitsRange head_len data_len more part }
     ensures more { (v : PduValue) (part : SegmentationPart) → IsPdu v → v.segmentation ≡ Some part
         → v.more ≡ nat_lt (part.offset + length v.body) (part.total - header_length v) }
 {}

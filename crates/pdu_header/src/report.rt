@@ -15,7 +15,8 @@ use crate::pdu::ReportTo;
 #[tactic(auto, unfolding(crate::specs::Rules::addresses_refusal))]
 pub fn reportable(frame: &[u8]) -> Option<ReportTo>
     ensures some { is_some result ≡ is_reportable frame.now }
-    ensures from { IfSome result (λ report. report.from ≡ address_at (pdu_rules.header_of frame.now) (source_place (pdu_rules.header_of frame.now))) }
+    ensures from { IfSome result (λ report. report.from
+        ≡ address_at (pdu_rules.header_of frame.now) (source_place (pdu_rules.header_of frame.now))) }
     ensures address { IfSome result (λ report. IsAddress report.from) }
     ensures head_len { IfSome result (λ report. report.head_len ≡ header_size frame.now) }
     ensures head { IfSome result (λ report. report.head_len ≡ length (pdu_rules.header_of frame.now)) }

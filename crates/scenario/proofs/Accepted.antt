@@ -6,13 +6,13 @@ use Rattle.std.proofs.lemmas.Bool.{leb-true, and_parts}
 use Rattle.std.proofs.lemmas.List.{length-map}
 use Rattle.std.proofs.lemmas.List.Sums.{sum_by-cons}
 use Rattle.std.proofs.lemmas.Result.{IfOk-at_ok}
-use Rattle.clnp_plan.specs.ClnpBase.Text.{lines_of, words_of}
+use Rattle.clnp_plan.specs.ClnpBase.Text.{lines_of, words_of, is_skipped}
 use Rattle.clnp_plan.proofs.ClnpBase.Lists.{AllByRecursion-implies}
 use Rattle.clnp_plan.specs.Configuration.{SystemConfiguration, IsSystem, IsWithin}
 use Rattle.clnp_plan.specs.declared.config.Limits.{Limits}
 use Rattle.scenario.specs.Scenario.{Plan, Subnetwork, IsFit, AsksFairly, AsksInForm, ChangesInForm, InjectsInForm, IsOfVersion1, IsPlaced, IsFromHost, IsOfRouter, IsSaid, passed_by, ticks_of}
 use Rattle.scenario.specs.Standing.{EachMayCome}
-use Rattle.scenario.specs.Words.{found, is_skipped}
+use Rattle.scenario.specs.Words.{found}
 use Rattle.scenario.specs.Declarations.{Declarations, DeclaredSystem, nothing_declared, limits_of, snpas_on, configuration_of}
 use Rattle.scenario.specs.Events.{Scene, first_scene, scene_after, event_line, counted, are_few, nothing_counted}
 use Rattle.scenario.specs.Grammar.{ReadTo, is_line_of, version_of, header_from, declarations_from, nothing_after, counted_event, event_for, events_from, fit_for, plan_at}

@@ -2,10 +2,10 @@
 use Rattle.std.proofs.Common.{◌≡◌, ℕ, zero, suc, ◌+◌, ◌*◌, ◌<◌, true, false, List, [], ◌∷◌, ◌++◌, length, slice_get, codes, Some, Ok, refl, sym, ap, ◌∙◌, subst, arith, append_assoc}
 use Rattle.std.specs.List.{AllByRecursion, flat_map}
 use Rattle.std.specs.Fmt.{decimal}
-use Rattle.clnp_plan.specs.ClnpBase.Text.{lines_of, words_of, decimal_of}
+use Rattle.clnp_plan.specs.ClnpBase.Text.{lines_of, words_of, decimal_of, is_skipped}
 use Rattle.clnp_plan.specs.Journal.{line_of}
 use Rattle.scenario.specs.Canonical.{skew_words}
-use Rattle.scenario.specs.Words.{is_name, declared_word, number_within, number_word, address_word, prefix_word, is_digits, is_taken, is_skipped}
+use Rattle.scenario.specs.Words.{is_name, declared_word, number_within, number_word, address_word, prefix_word, is_digits, is_taken}
 use Rattle.scenario.specs.Declarations.{Declarations, DeclaredSystem, nothing_declared, subnet_names, system_names, with_address, with_port, with_route, takes_address, takes_port, takes_route, has_port, has_numbered, has_route, is_router_at, snpas_on, mtu_at, limits_words, limits_line, subnet_line, role_word, setting_words, system_line, address_line, port_line, route_line, declaration_line}
 use Rattle.scenario.specs.Standing.{changed_at, is_among}
 use Rattle.scenario.specs.Grammar.{declarations_from}

@@ -1,7 +1,7 @@
 -- Reading event lines one after the other, as a loop does.
 use Rattle.std.proofs.Common.{◌≡◌, ℕ, ◌+◌, true, false, List, [], ◌∷◌, ◌++◌, codes, Result, Ok, Err, refl, sym, ap, ◌∙◌}
 use Rattle.std.proofs.lemmas.List.{append-nil}
-use Rattle.clnp_plan.specs.ClnpBase.Text.{words_of}
+use Rattle.clnp_plan.specs.ClnpBase.Text.{words_of, is_skipped}
 use Rattle.scenario.specs.declared.counts.Counts.{Counts}
 use Rattle.scenario.specs.declared.event.Event.{Event}
 use Rattle.scenario.specs.declared.fault.ScenarioRefusal.{ScenarioRefusal}
@@ -9,7 +9,6 @@ use Rattle.scenario.specs.declared.fault.ScenarioRefusal.TheVariants as scenario
 use Rattle.scenario.specs.declared.code.Code.{Code}
 use Rattle.scenario.specs.declared.code.Code.TheVariants as bad
 use Rattle.scenario.specs.Codes.{number_of}
-use Rattle.scenario.specs.Words.{is_skipped}
 use Rattle.scenario.specs.Events.{Scene, scene_after, counted}
 use Rattle.scenario.specs.Grammar.{BadLine, at_line, is_line_of, nothing_after, events_from}
 use Rattle.scenario.specs.Refusal.{Refuses}

@@ -5,10 +5,10 @@ use Rattle.std.specs.List.{AllByRecursion, list_all}
 use Rattle.std.proofs.lemmas.Bool.{cases_Bool, and_parts, eq-eqb, eqb-true}
 use Rattle.std.proofs.lemmas.List.{length-map}
 use Rattle.std.proofs.lemmas.Result.{IfOk-at_ok}
-use Rattle.clnp_plan.specs.ClnpBase.Text.{lines_of, words_of}
+use Rattle.clnp_plan.specs.ClnpBase.Text.{lines_of, words_of, is_skipped}
 use Rattle.clnp_plan.specs.Configuration.{SystemConfiguration}
 use Rattle.scenario.specs.Scenario.{IsForBoard, IsLive, Plan}
-use Rattle.scenario.specs.Words.{◌>>=◌, wanted, is_skipped}
+use Rattle.scenario.specs.Words.{◌>>=◌, wanted}
 use Rattle.scenario.specs.Declarations.{Declarations, DeclaredSystem, NumberedPort, nothing_declared, limits_of, fits_board, configuration_of}
 use Rattle.scenario.specs.Events.{Scene, first_scene, scene_after, is_live_line, counted, nothing_counted}
 use Rattle.scenario.specs.Grammar.{BadLine, ReadTo, at_line, newest_version, is_line_of, header_from, declarations_from, nothing_after, counted_event, live_event, events_from, fit_for, plan_behind, plan_at, plan_of, run_plan_of}

@@ -3,7 +3,7 @@ use Rattle.std.proofs.Common.{◌≡◌, ◌≢◌, ◌↔◌, inl, inr, ℕ, �
 use Rattle.std.specs.Str.{bytes_eq}
 use Rattle.std.proofs.lemmas.Bool.{cases_Bool, eq-eqb, eqb-true, ne_eqb, true≢false}
 use Rattle.std.proofs.lemmas.Result.{IfOk-at_ok}
-use Rattle.clnp_plan.specs.ClnpBase.Text.{lines_of}
+use Rattle.clnp_plan.specs.ClnpBase.Text.{lines_of, is_skipped}
 use Rattle.scenario.specs.Canonical.{text_of}
 use Rattle.scenario.specs.Codes.{number_of}
 use Rattle.scenario.specs.Grammar.{BadLine, ReadTo, at_line, newest_version, version_of, header_from, declarations_from, plan_behind, plan_at, plan_of, plan_of_version_1, counted_event, events_from}
@@ -11,7 +11,7 @@ use Rattle.scenario.specs.Declarations.{nothing_declared, limits_of, configurati
 use Rattle.scenario.specs.Events.{first_scene, nothing_counted}
 use Rattle.scenario.specs.Migration.{IsReadAlike, migrated, migration_of}
 use Rattle.scenario.specs.Scenario.{IsFit, Plan}
-use Rattle.scenario.specs.Words.{◌>>=◌, found, is_skipped}
+use Rattle.scenario.specs.Words.{◌>>=◌, found}
 use Rattle.scenario.specs.declared.code.Code.TheVariants as bad
 use Rattle.scenario.proofs.Behind.{behind_result, is_within}
 

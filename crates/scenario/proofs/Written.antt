@@ -18,7 +18,7 @@ use Rattle.clnp_plan.specs.Nsap.Text as nsap
 use Rattle.clnp_plan.specs.Nsap.Text.{hex_text}
 use Rattle.clnp_plan.specs.Nsap.declared.target.Target.{Target}
 use Rattle.clnp_plan.specs.Nsap.declared.target.Target.TheVariants.{System, EndSystems, Routers}
-use Rattle.clnp_plan.specs.ClnpBase.Text.{words_of, lines_of, onto_first, ends_word, is_digit, decimal_of}
+use Rattle.clnp_plan.specs.ClnpBase.Text.{words_of, lines_of, onto_first, ends_word, is_digit, decimal_of, is_skipped}
 use Rattle.clnp_plan.proofs.ClnpBase.Decimals.{value_after}
 use Rattle.clnp_plan.proofs.ClnpBase.Lists.{AllByRecursion-append, AllByRecursion-implies}
 use Rattle.clnp_plan.specs.Configuration.{AreDistinct, IsWithin}
@@ -26,7 +26,7 @@ use Rattle.clnp_plan.specs.Journal as journal
 use Rattle.clnp_plan.specs.Journal.{behind_space, line_of}
 use Rattle.scenario.specs.Canonical.{keyed, spelled_behind}
 use Rattle.scenario.specs.Scenario.{IsTarget}
-use Rattle.scenario.specs.Words.{◌>>=◌, wanted, found, is_letter, is_letter_or_digit, is_name, declared_word, number_within, number_word, is_digits, address_read, address_word, after_prefix, digits_read, has_prefix, target_word, frame_word, octets_behind, number_behind, is_skipped}
+use Rattle.scenario.specs.Words.{◌>>=◌, wanted, found, is_letter, is_letter_or_digit, is_name, declared_word, number_within, number_word, is_digits, address_read, address_word, after_prefix, digits_read, has_prefix, target_word, frame_word, octets_behind, number_behind}
 use Rattle.scenario.specs.declared.code.Code.{Code}
 use Rattle.scenario.specs.declared.code.Code.TheVariants as bad
 use Rattle.clnp_plan.proofs.ClnpBase.Reading.{words_of-next, IsWithinLine, lines_of-line}

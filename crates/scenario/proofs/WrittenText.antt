@@ -3,14 +3,13 @@ use Rattle.std.proofs.Common.{◌≡◌, ℕ, ◌+◌, ◌≤◌, true, false, L
 use Rattle.std.specs.List.{AllByRecursion, flat_map, sum}
 use Rattle.std.proofs.lemmas.Bool.{le-leb}
 use Rattle.std.proofs.lemmas.List.Sums.{sum_by-cons}
-use Rattle.clnp_plan.specs.ClnpBase.Text.{lines_of, words_of}
+use Rattle.clnp_plan.specs.ClnpBase.Text.{lines_of, words_of, is_skipped}
 use Rattle.clnp_plan.specs.Configuration.{SystemConfiguration}
 use Rattle.scenario.specs.Canonical.{event_text}
 use Rattle.scenario.specs.Events.{Scene, scene_of, scene_after, event_line, counted, are_few}
 use Rattle.scenario.specs.Grammar.{at_line, is_line_of, counted_event, events_from}
 use Rattle.scenario.specs.Scenario.{Subnetwork, IsOfVersion1, passed_by, ticks_of}
 use Rattle.scenario.specs.Standing.{EachMayCome, Standing, standing_after}
-use Rattle.scenario.specs.Words.{is_skipped}
 use Rattle.scenario.specs.declared.code.Code.{Code}
 use Rattle.scenario.specs.declared.code.Code.TheVariants as bad
 use Rattle.scenario.specs.declared.counts.Counts.{Counts}

@@ -200,8 +200,3 @@ is_taken names name = is_some (position (λ other. bytes_eq other name) names)
 abbrev pub each_once : {X : Type 0} → (X → List ℕ) → List X → Bool
 each_once key [] = true
 each_once key (x ∷ xs) = not (list_any (λ y. bytes_eq (key y) (key x)) xs) && each_once key xs
-
--- an empty line, and one that begins with `#`
-abbrev pub is_skipped : List ℕ → Bool
-is_skipped [] = true
-is_skipped (first ∷ others) = first == 35

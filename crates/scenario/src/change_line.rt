@@ -63,7 +63,9 @@ fn mtu_line(subnets: &[Subnet], line: &[u8]) -> Result<Event, Code>
 #[tactic(auto, unfolding(crate::specs::Events::route_line))]
 fn route_line(settled: Settled<'_>, standing: &Standing, line: &[u8]) -> Result<Event, Code>
     requires { length settled.systems.now ≤ 64 }
-    ensures { result ≡ route_line (scene_of settled.entry.version settled.entry.subnets.now settled.entry.systems.now standing.now) (words_of line.now) }
+    ensures { result ≡ route_line
+        (scene_of settled.entry.version settled.entry.subnets.now settled.entry.systems.now standing.now)
+        (words_of line.now) }
 {
     let Some((name, prefix, port, snpa, title)) = five_words(line) else {
         return Err(Code::Syntax);
@@ -89,7 +91,9 @@ fn route_line(settled: Settled<'_>, standing: &Standing, line: &[u8]) -> Result<
 #[tactic(auto, unfolding(crate::specs::Events::unroute_line))]
 fn unroute_line(settled: Settled<'_>, standing: &Standing, line: &[u8]) -> Result<Event, Code>
     requires { length settled.systems.now ≤ 64 }
-    ensures { result ≡ unroute_line (scene_of settled.entry.version settled.entry.subnets.now settled.entry.systems.now standing.now) (words_of line.now) }
+    ensures { result ≡ unroute_line
+        (scene_of settled.entry.version settled.entry.subnets.now settled.entry.systems.now standing.now)
+        (words_of line.now) }
 {
     let Some((name, prefix)) = two_words(line) else {
         return Err(Code::Syntax);
@@ -107,7 +111,9 @@ fn unroute_line(settled: Settled<'_>, standing: &Standing, line: &[u8]) -> Resul
 fn port_line(settled: Settled<'_>, standing: &Standing, line: &[u8]) -> Result<Event, Code>
     requires subnets { length settled.subnets.now ≤ 64 }
     requires systems { length settled.systems.now ≤ 64 }
-    ensures { result ≡ port_line (scene_of settled.entry.version settled.entry.subnets.now settled.entry.systems.now standing.now) (words_of line.now) }
+    ensures { result ≡ port_line
+        (scene_of settled.entry.version settled.entry.subnets.now settled.entry.systems.now standing.now)
+        (words_of line.now) }
 {
     let Some((name, number, subnet, snpa)) = four_words(line) else {
         return Err(Code::Syntax);
@@ -137,7 +143,9 @@ pub(crate) fn tick_system_line(
     line: &[u8],
 ) -> Result<Event, Code>
     requires { length settled.systems.now ≤ 64 }
-    ensures { result ≡ tick_system_line (scene_of settled.entry.version settled.entry.subnets.now settled.entry.systems.now standing.now) (words_of line.now) }
+    ensures { result ≡ tick_system_line
+        (scene_of settled.entry.version settled.entry.subnets.now settled.entry.systems.now standing.now)
+        (words_of line.now) }
 {
     let Some((name, count)) = two_words(line) else {
         return Err(Code::Syntax);
@@ -158,7 +166,9 @@ pub(crate) fn change_line(
 ) -> Result<Event, Code>
     requires subnets { length settled.subnets.now ≤ 64 }
     requires systems { length settled.systems.now ≤ 64 }
-    ensures { result ≡ change_line (scene_of settled.entry.version settled.entry.subnets.now settled.entry.systems.now standing.now) keyword.now (words_of line.now) }
+    ensures { result ≡ change_line
+        (scene_of settled.entry.version settled.entry.subnets.now settled.entry.systems.now standing.now)
+        keyword.now (words_of line.now) }
 {
     if same(keyword, b"mtu") {
         return mtu_line(settled.subnets, line);

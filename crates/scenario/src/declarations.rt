@@ -1,12 +1,12 @@
 //! What the lines of a text declare.
-ghost use Rattle.std.specs.Prelude.{◌≡◌, ◌<◌, ◌≤◌, ◌==◌, ◌&&◌, ◌++◌, ◌∷◌, [], map, length, slice_get, nat_eq, None, Some, IfSome, IfOk, Ok, Err, MatchOption, MatchResult};
+ghost use Rattle.std.specs.Prelude.{◌≡◌, ◌<◌, ◌≤◌, ◌==◌, ◌&&◌, ◌++◌, ◌∷◌, [], length, slice_get, nat_eq, None, Some, IfSome, IfOk, Ok, Err, MatchOption, MatchResult};
 ghost use Rattle.std.specs.Cmp.Lexicographic.{pointwise};
 ghost use Rattle.std.specs.List.{position, list_any, list_all, flat_map};
 ghost use Rattle.std.specs.Str.{bytes_eq};
 ghost use Rattle.clnp_plan.specs.ClnpBase.Text.{words_of};
 ghost use Rattle.scenario.specs.Declarations.{nothing_declared, subnet_names, system_names, has_port, snpas_on, takes_address, takes_port, mtu_at, with_address, with_port, is_router_at, router_word, has_numbered, port_word, has_route, takes_route, with_route, settings_of, limits_words, limits_line, limits_of, subnet_line, system_line, address_line, transit_word, port_line, route_line, declaration_line, has_limits, is_complete, fits_board};
 ghost use Rattle.scenario.specs.Standing.{changed_at, is_among};
-ghost use Rattle.scenario.specs.Words.{is_taken, declared_word};
+ghost use Rattle.scenario.specs.Words.{declared_word};
 ghost use Rattle.scenario.specs.Refusal.{Faults};
 
 use crate::code::Code;
@@ -41,7 +41,12 @@ impl Model for Declared {
 
     ghost Value = { Declarations };
 
-    ghost view = { λ d. record { version = d.version; limits = d.limits; subnets = d.subnets.items; systems = d.systems.items } };
+    ghost view = { λ d. record {
+      version = d.version;
+      limits = d.limits;
+      subnets = d.subnets.items;
+      systems = d.systems.items;
+    } };
 
     ghost invariant = { λ d. (length d.subnets.items ≤ 64) × (length d.systems.items ≤ 64) };
 }
@@ -49,7 +54,8 @@ impl Model for Declared {
 /// Gives the system at a place an address.
 fn add_address(systems: &mut [System], place: usize, address: Address) -> Result<(), LineFault>
     requires { place < length systems.old }
-    ensures { MatchResult result (λ _. systems.new ≡ changed_at (with_address address) place systems.old) (λ fault. fault ≡ LineFault.NoMemory) }
+    ensures { MatchResult result (λ _. systems.new ≡ changed_at (with_address address) place systems.old)
+        (λ fault. fault ≡ LineFault.NoMemory) }
 {
     let system = &mut systems[place];
     system.add_address(address)
@@ -58,7 +64,8 @@ fn add_address(systems: &mut [System], place: usize, address: Address) -> Result
 /// Gives the system at a place a port.
 fn add_port(systems: &mut [System], place: usize, port: PortAt) -> Result<(), LineFault>
     requires { place < length systems.old }
-    ensures { MatchResult result (λ _. systems.new ≡ changed_at (with_port port) place systems.old) (λ fault. fault ≡ LineFault.NoMemory) }
+    ensures { MatchResult result (λ _. systems.new ≡ changed_at (with_port port) place systems.old)
+        (λ fault. fault ≡ LineFault.NoMemory) }
 {
     let system = &mut systems[place];
     system.add_port(port)
@@ -67,7 +74,8 @@ fn add_port(systems: &mut [System], place: usize, port: PortAt) -> Result<(), Li
 /// Gives the system at a place a route.
 fn add_route(systems: &mut [System], place: usize, route: Route) -> Result<(), LineFault>
     requires { place < length systems.old }
-    ensures { MatchResult result (λ _. systems.new ≡ changed_at (with_route route) place systems.old) (λ fault. fault ≡ LineFault.NoMemory) }
+    ensures { MatchResult result (λ _. systems.new ≡ changed_at (with_route route) place systems.old)
+        (λ fault. fault ≡ LineFault.NoMemory) }
 {
     let system = &mut systems[place];
     system.add_route(route)
@@ -82,7 +90,8 @@ fn has_address(systems: &[System], address: &Address) -> bool
 
 /// Whether one of the systems has this address on this subnetwork.
 fn has_snpa(systems: &[System], subnet: u8, snpa: &Snpa) -> bool
-    ensures { result ≡ list_any (λ system. list_any (λ numbered. (numbered.port.subnet == subnet) && pointwise nat_eq numbered.port.snpa snpa.now) system.ports) systems.now }
+    ensures { result ≡ list_any (λ system. list_any (λ numbered. (numbered.port.subnet == subnet)
+        && pointwise nat_eq numbered.port.snpa snpa.now) system.ports) systems.now }
 {
     systems.iter().any(|system| system.has_snpa(subnet, snpa))
 }
@@ -101,7 +110,8 @@ fn transit_word(line: &[u8]) -> Result<u8, Code>
 /// The words of a line of limits. In version 1 none says how far apart clocks may stand, and they tick together.
 fn limits_words(version: u8, line: &[u8]) -> Option<(&[u8], &[u8], &[u8], &[u8])>
     ensures { MatchOption result (limits_words version (words_of line.now) ≡ None)
-        (λ words. limits_words version (words_of line.now) ≡ Some (words.0.now, words.1.now, words.2.now, words.3.now)) }
+        (λ words. limits_words version (words_of line.now)
+        ≡ Some (words.0.now, words.1.now, words.2.now, words.3.now)) }
 {
     if version == 1 {
         let (age, hold, reuse) = three_words(line)?;
@@ -220,7 +230,8 @@ impl Declared {
     #[tactic(auto, unfolding(crate::specs::Declarations::subnet_line))]
     fn subnet_of<'a>(&self, line: &'a [u8]) -> Result<(&'a [u8], u16), Code>
         ensures reading { MatchResult result
-            (λ r. subnet_line self.now (words_of line.now) ≡ Ok (record self.now { subnets = self.now.subnets ++ record { name = r.0.now; mtu = r.1 } ∷ [] }))
+            (λ r. subnet_line self.now (words_of line.now)
+            ≡ Ok (record self.now { subnets = self.now.subnets ++ record { name = r.0.now; mtu = r.1 } ∷ [] }))
             (λ code. subnet_line self.now (words_of line.now) ≡ Err code) }
         ensures room { IfOk result (λ _. length self.now.subnets < 64) }
     {
@@ -255,7 +266,17 @@ impl Declared {
         line: &'a [u8],
     ) -> Result<(&'a [u8], Role, Settings), LineFault>
         ensures reading { MatchResult result
-            (λ r. system_line self.now (words_of line.now) ≡ Ok (record self.now { systems = self.now.systems ++ record { name = r.0.now; role = r.1; settings = r.2; addresses = []; ports = []; routes = [] } ∷ [] }))
+            (λ r. system_line self.now (words_of line.now)
+            ≡ Ok (record self.now {
+              systems = self.now.systems ++ record {
+                name = r.0.now;
+                role = r.1;
+                settings = r.2;
+                addresses = [];
+                ports = [];
+                routes = [];
+              } ∷ [];
+            }))
             (λ fault. Faults fault (system_line self.now (words_of line.now))) }
         ensures room { IfOk result (λ _. length self.now.systems < 64) }
     {
@@ -340,7 +361,8 @@ impl Declared {
     #[tactic(auto, unfolding(crate::specs::Declarations::address_line))]
     fn address_of(&self, line: &[u8]) -> Result<(usize, Address), Code>
         ensures reading { MatchResult result
-            (λ r. address_line self.now (words_of line.now) ≡ Ok (record self.now { systems = changed_at (with_address r.1) r.0 self.now.systems }))
+            (λ r. address_line self.now (words_of line.now)
+            ≡ Ok (record self.now { systems = changed_at (with_address r.1) r.0 self.now.systems }))
             (λ code. address_line self.now (words_of line.now) ≡ Err code) }
         ensures within { IfOk result (λ r. r.0 < length self.now.systems) }
     {
@@ -369,7 +391,15 @@ impl Declared {
     /// The port that words declare, of the system at a place.
     fn port_at(&self, number: u8, subnet: usize, snpa: Snpa, transit: u8) -> PortAt
         requires { subnet < 64 }
-        ensures { result ≡ record { number = number; port = record { subnet = subnet; snpa = snpa; transit = transit; mtu = mtu_at (slice_get self.now.subnets subnet) } } }
+        ensures { result ≡ record {
+          number = number;
+          port = record {
+            subnet = subnet;
+            snpa = snpa;
+            transit = transit;
+            mtu = mtu_at (slice_get self.now.subnets subnet);
+          };
+        } }
     {
         let mtu = self.mtu_at(subnet);
         PortAt {
@@ -388,7 +418,8 @@ impl Declared {
     #[tactic(auto, unfolding(crate::specs::Declarations::port_line))]
     fn port_of(&self, line: &[u8]) -> Result<(usize, PortAt), Code>
         ensures reading { MatchResult result
-            (λ r. port_line self.now (words_of line.now) ≡ Ok (record self.now { systems = changed_at (with_port r.1) r.0 self.now.systems }))
+            (λ r. port_line self.now (words_of line.now)
+            ≡ Ok (record self.now { systems = changed_at (with_port r.1) r.0 self.now.systems }))
             (λ code. port_line self.now (words_of line.now) ≡ Err code) }
         ensures within { IfOk result (λ r. r.0 < length self.now.systems) }
     {
@@ -487,7 +518,8 @@ impl Declared {
     #[tactic(auto, unfolding(crate::specs::Declarations::route_line))]
     fn route_of(&self, line: &[u8]) -> Result<(usize, Route), Code>
         ensures reading { MatchResult result
-            (λ r. route_line self.now (words_of line.now) ≡ Ok (record self.now { systems = changed_at (with_route r.1) r.0 self.now.systems }))
+            (λ r. route_line self.now (words_of line.now)
+            ≡ Ok (record self.now { systems = changed_at (with_route r.1) r.0 self.now.systems }))
             (λ code. route_line self.now (words_of line.now) ≡ Err code) }
         ensures within { IfOk result (λ r. r.0 < length self.now.systems) }
     {

@@ -1,5 +1,5 @@
 //! The event lines.
-ghost use Rattle.std.specs.Prelude.{◌≡◌, ◌<◌, ◌≤◌, map, length, slice_get, IfSome, IfOk, Ok, Err, MatchResult};
+ghost use Rattle.std.specs.Prelude.{◌≡◌, ◌<◌, ◌≤◌, map, length, slice_get, IfSome, Ok, Err, MatchResult};
 ghost use Rattle.std.specs.List.{position};
 ghost use Rattle.std.specs.Str.{bytes_eq};
 ghost use Rattle.clnp_plan.specs.ClnpBase.Text.{words_of};
@@ -157,7 +157,9 @@ fn tick_line(line: &[u8]) -> Result<u32, Code>
 #[tactic(auto, unfolding(crate::specs::Events::ticks_line))]
 fn ticks_line(settled: Settled<'_>, standing: &Standing, line: &[u8]) -> Result<Event, Code>
     requires { length settled.systems.now ≤ 64 }
-    ensures { result ≡ ticks_line (scene_of settled.entry.version settled.entry.subnets.now settled.entry.systems.now standing.now) (words_of line.now) }
+    ensures { result ≡ ticks_line
+        (scene_of settled.entry.version settled.entry.subnets.now settled.entry.systems.now standing.now)
+        (words_of line.now) }
 {
     if settled.version == 1 || is_one_at_most(line) {
         let count = tick_line(line)?;
@@ -258,7 +260,8 @@ fn first_subnet_named(subnets: &[Subnet], name: &[u8]) -> Option<usize>
 
 /// The place of a name among the subnetworks'.
 fn subnet_place_of(subnets: &[Subnet], name: &[u8]) -> Option<usize>
-    ensures place { result ≡ position (λ other. bytes_eq other name.now) (map (λ (subnet : Subnetwork). subnet.name) subnets.now) }
+    ensures place { result ≡ position (λ other. bytes_eq other name.now)
+        (map (λ (subnet : Subnetwork). subnet.name) subnets.now) }
     ensures within { IfSome result (λ place. place < length subnets.now) }
 {
     first_subnet_named(subnets, name)
@@ -328,7 +331,9 @@ pub(crate) fn event_line(
 ) -> Result<Event, LineFault>
     requires subnets { length settled.subnets.now ≤ 64 }
     requires systems { length settled.systems.now ≤ 64 }
-    ensures { let reading = event_line (scene_of settled.entry.version settled.entry.subnets.now settled.entry.systems.now standing.now) (words_of line.now) in
+    ensures { let reading = event_line
+        (scene_of settled.entry.version settled.entry.subnets.now settled.entry.systems.now standing.now)
+        (words_of line.now) in
         MatchResult result (λ event. reading ≡ Ok event) (λ fault. Faults fault reading) }
 {
     let Some((keyword, line)) = next_word(line) else {

@@ -1,5 +1,5 @@
-//! Laws of the grammar. Each law is the clause of a function that does nothing; one that calls others has their clauses for
-//! its proof.
+//! Laws of the grammar. Each law is the clause of a function that does nothing; one that calls others has their clauses
+//! for its proof.
 
 ghost use Rattle.std.specs.Prelude.{◌≡◌, ◌↔◌, ℕ, List, Option, Ok};
 ghost use Rattle.clnp_plan.specs.ClnpBase.Text.{lines_of};
@@ -9,16 +9,16 @@ ghost use Rattle.scenario.specs.Migration.{IsReadAlike, migrated, migration_of};
 ghost use Rattle.scenario.specs.Scenario.{IsClosed, IsFit, IsForBoard, Plan};
 ghost use Rattle.scenario.specs.Seeds.{storm};
 
-/// What the grammar accepts is fit to be run: its version, limits, settings and numbers are in their ranges, in version 1 its clocks
-/// tick together, each name is a name of the grammar, each system has the addresses, ports and routes that its role calls for,
-/// no name, address or SNPA on a subnetwork stands twice, and no prefix at a router, each port is on a declared
-/// subnetwork and has its MTU, no two ports of a system are on one subnetwork, each prefix has up to 40 digits,
-/// each route leads out of a port that is there, events name declared systems, hosts alone are asked to send data
-/// units, routers alone are said to be congested and get routes, each unit and each echo is asked for between addresses, a data
-/// unit with a lifetime that an octet holds and options in their form, and none with an option that an error report
-/// alone may have; a network changes in version 2 alone, what changes is there, at no moment are two ports of a system on one
-/// subnetwork, is an address there that of two ports, has a router more than 256 routes, or comes a clock by ticks of its own to stand
-/// further above another one than it may; events say only numbers, data and
+/// What the grammar accepts is fit to be run: its version, limits, settings and numbers are in their ranges, in version
+/// 1 its clocks tick together, each name is a name of the grammar, each system has the addresses, ports and routes that
+/// its role calls for, no name, address or SNPA on a subnetwork stands twice, and no prefix at a router, each port is
+/// on a declared subnetwork and has its MTU, no two ports of a system are on one subnetwork, each prefix has up to 40
+/// digits, each route leads out of a port that is there, events name declared systems, hosts alone are asked to send
+/// data units, routers alone are said to be congested and get routes, each unit and each echo is asked for between
+/// addresses, a data unit with a lifetime that an octet holds and options in their form, and none with an option that
+/// an error report alone may have; a network changes in version 2 alone, what changes is there, at no moment are two
+/// ports of a system on one subnetwork, is an address there that of two ports, has a router more than 256 routes, or
+/// comes a clock by ticks of its own to stand further above another one than it may; events say only numbers, data and
 /// options that a line may say, they are few, few copies are settled and lost, and few ticks pass.
 pub fn accepted_is_fit()
     ensures { (text : List ℕ) (plan : Plan) → plan_of text ≡ Ok plan → IsFit plan }
@@ -35,8 +35,8 @@ pub(crate) fn each_version_is_fit()
     clnp_plan::nsap::laws::read_is_address();
 }
 
-/// What is accepted for a live node on a board of so many links is what is accepted anyhow and is for that board: it has
-/// one system, with a port for each link, and no events but those that a node takes.
+/// What is accepted for a live node on a board of so many links is what is accepted anyhow and is for that board: it
+/// has one system, with a port for each link, and no events but those that a node takes.
 pub fn accepted_for_run()
     ensures { (links : ℕ) (text : List ℕ) (plan : Plan)
         → (run_plan_of links text ≡ Ok plan) ↔ ((plan_of text ≡ Ok plan) × IsForBoard links plan) }
@@ -77,8 +77,8 @@ pub fn version_1_is_read_alike()
     ensures alike { (text : List ℕ) → IsReadAlike text (header_from newest_version 1 (lines_of text)) }
 {}
 
-/// A scenario that is fit to be run is so in version 2, in which the clocks of one of version 1 tick together as they did, and
-/// what is written of it then is read as it.
+/// A scenario that is fit to be run is so in version 2, in which the clocks of one of version 1 tick together as they
+/// did, and what is written of it then is read as it.
 pub fn migrated_is_fit()
     ensures fit { (plan : Plan) → IsFit plan → IsFit (migrated plan) }
     ensures together { (plan : Plan) → IsFit plan → plan.version ≡ 1 → (migrated plan).limits.skew ≡ 0 }

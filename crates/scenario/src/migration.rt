@@ -17,8 +17,10 @@ use std::alloc::Global;
 /// As `read_version_1`.
 pub fn migrate(alloc: Global, text: &[u8]) -> Result<Vec<u8>, ScenarioRefusal>
     requires { length (lines_of text.now) < 2 ^ 32 - 1 }
-    ensures written { MatchResult result (λ out. migration_of text.now ≡ Ok out.items) (λ refusal. Refuses refusal (migration_of text.now)) }
-    ensures read_back { IfOk result (λ out. IfOk (plan_of_version_1 text.now) (λ plan. plan_of out.items ≡ Ok (migrated plan))) }
+    ensures written { MatchResult result (λ out. migration_of text.now ≡ Ok out.items)
+        (λ refusal. Refuses refusal (migration_of text.now)) }
+    ensures read_back { IfOk result (λ out. IfOk (plan_of_version_1 text.now)
+        (λ plan. plan_of out.items ≡ Ok (migrated plan))) }
 {
     let scenario = read_version_1(alloc, text)?;
     let scenario = scenario.migrate();

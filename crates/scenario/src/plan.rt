@@ -34,13 +34,14 @@ impl Subnet {
 }
 
 /// What a text declares, and its events. A contract knows of each that it is fit to be run: its version, limits,
-/// settings and numbers are in their ranges, in version 1 its clocks tick together, each name is a name of the grammar, each system has what its role calls for, no
-/// name, address or SNPA on a subnetwork stands twice, and no prefix at a router, each port is on a declared subnetwork
-/// and has its MTU, no two ports of a system are on one subnetwork, each route leads out of a port that is there,
-/// events name declared systems, hosts alone are asked to send, routers alone are said to be congested and get routes, a network
-/// changes in version 2 alone, ports, subnetworks and routers that change are there, at no moment are two ports of a system on one
-/// subnetwork, is an address there that of two ports, has a router more than 256 routes, or comes a clock by ticks of its own to stand
-/// further above another one than it may, and events are few and say only what a line may say.
+/// settings and numbers are in their ranges, in version 1 its clocks tick together, each name is a name of the grammar,
+/// each system has what its role calls for, no name, address or SNPA on a subnetwork stands twice, and no prefix at a
+/// router, each port is on a declared subnetwork and has its MTU, no two ports of a system are on one subnetwork, each
+/// route leads out of a port that is there, events name declared systems, hosts alone are asked to send, routers alone
+/// are said to be congested and get routes, a network changes in version 2 alone, ports, subnetworks and routers that
+/// change are there, at no moment are two ports of a system on one subnetwork, is an address there that of two ports,
+/// has a router more than 256 routes, or comes a clock by ticks of its own to stand further above another one than it
+/// may, and events are few and say only what a line may say.
 #[derive(Drop)]
 pub struct Scenario {
     pub(crate) version: u8,
@@ -55,9 +56,21 @@ impl Model for Scenario {
 
     ghost Value = { Plan };
 
-    ghost view = { λ s. record { version = s.version; limits = s.limits; subnets = s.subnets.items; systems = s.systems.items; events = s.events.items } };
+    ghost view = { λ s. record {
+      version = s.version;
+      limits = s.limits;
+      subnets = s.subnets.items;
+      systems = s.systems.items;
+      events = s.events.items;
+    } };
 
-    ghost invariant = { λ s. IsFit (record { version = s.version; limits = s.limits; subnets = s.subnets.items; systems = s.systems.items; events = s.events.items }) };
+    ghost invariant = { λ s. IsFit (record {
+      version = s.version;
+      limits = s.limits;
+      subnets = s.subnets.items;
+      systems = s.systems.items;
+      events = s.events.items;
+    }) };
 }
 
 impl Scenario {

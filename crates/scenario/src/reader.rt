@@ -1,5 +1,5 @@
 //! The reader of scenario texts.
-ghost use Rattle.std.specs.Prelude.{◌≡◌, ◌+◌, ◌-◌, ◌^◌, ◌≤◌, ◌<◌, true, map, length, codes, IfOk, Ok, Err, MatchResult};
+ghost use Rattle.std.specs.Prelude.{◌≡◌, ◌+◌, ◌-◌, ◌^◌, ◌≤◌, ◌<◌, true, map, length, IfOk, Ok, Err, MatchResult};
 ghost use Rattle.std.specs.List.{AllByRecursion};
 ghost use Rattle.clnp_plan.specs.ClnpBase.Text.{lines_of, words_of};
 ghost use Rattle.clnp_plan.specs.Configuration.{IsSystem};
@@ -8,7 +8,7 @@ ghost use Rattle.scenario.specs.Events.{scene_of, first_scene, counted, are_few,
 ghost use Rattle.scenario.specs.Grammar.{at_line, version_of, header_from, declarations_from, nothing_after, counted_event, live_event, event_for, events_from, fit_for, plan_at, plan_of, plan_of_version_1, run_plan_of};
 ghost use Rattle.scenario.specs.Codes.{number_of};
 ghost use Rattle.scenario.specs.declared.fault.ScenarioRefusal.TheVariants.{BadLine};
-ghost use Rattle.scenario.specs.Refusal.{Refuses, Faults};
+ghost use Rattle.scenario.specs.Refusal.{Refuses};
 ghost use Rattle.scenario.specs.Scenario.{IsForBoard};
 
 use crate::change_line::Settled;
@@ -22,9 +22,9 @@ use crate::laws;
 use crate::plan::{Scenario, Subnet};
 use crate::standing::Standing;
 use crate::system::System;
-use crate::word::{is_line_of, is_skipped};
+use crate::word::is_line_of;
 use clnp_plan::SystemConfig;
-use clnp_plan::clnp_base::{next_line, same};
+use clnp_plan::clnp_base::{is_skipped, next_line, same};
 use std::alloc::{AllocError, Global};
 
 /// A line that breaks the grammar, by its number and the code's.
@@ -57,7 +57,8 @@ fn version_of(newest: u8, line: &[u8]) -> Option<u8>
 fn header(newest: u8, text: &[u8]) -> Result<(u8, u32, &[u8]), ScenarioRefusal>
     requires { 1 + length (lines_of text.now) < 2 ^ 32 }
     ensures header { let reading = header_from newest 1 (lines_of text.now) in
-        MatchResult result (λ r. reading ≡ Ok (record { value = r.0; number = r.1; lines = lines_of r.2.now })) (λ refusal. Refuses refusal reading) }
+        MatchResult result (λ r. reading ≡ Ok (record { value = r.0; number = r.1; lines = lines_of r.2.now }))
+        (λ refusal. Refuses refusal reading) }
     ensures few { IfOk result (λ r. r.1 + length (lines_of r.2.now) < 2 ^ 32) }
 {
     let mut number: u32 = 1;
@@ -171,7 +172,9 @@ fn counted_event(
     requires few { are_few counts ≡ true }
     requires subnets { length settled.subnets.now ≤ 64 }
     requires systems { length settled.systems.now ≤ 64 }
-    ensures event { let reading = at_line number (counted_event (scene_of settled.entry.version settled.entry.subnets.now settled.entry.systems.now standing.now) counts (words_of line.now)) in
+    ensures event { let reading = at_line number (counted_event
+        (scene_of settled.entry.version settled.entry.subnets.now settled.entry.systems.now standing.now)
+        counts (words_of line.now)) in
         MatchResult result (λ event. reading ≡ Ok event) (λ refusal. Refuses refusal reading) }
     ensures few { IfOk result (λ event. are_few (counted counts event) ≡ true) }
 {
@@ -199,7 +202,9 @@ fn live_event(
     requires few { are_few counts ≡ true }
     requires subnets { length settled.subnets.now ≤ 64 }
     requires systems { length settled.systems.now ≤ 64 }
-    ensures event { let reading = at_line number (live_event (scene_of settled.entry.version settled.entry.subnets.now settled.entry.systems.now standing.now) counts (words_of line.now)) in
+    ensures event { let reading = at_line number (live_event
+        (scene_of settled.entry.version settled.entry.subnets.now settled.entry.systems.now standing.now)
+        counts (words_of line.now)) in
         MatchResult result (λ event. reading ≡ Ok event) (λ refusal. Refuses refusal reading) }
     ensures few { IfOk result (λ event. are_few (counted counts event) ≡ true) }
 {
@@ -222,7 +227,9 @@ fn event_for(
     requires few { are_few counts ≡ true }
     requires subnets { length settled.subnets.now ≤ 64 }
     requires systems { length settled.systems.now ≤ 64 }
-    ensures event { let reading = at_line number (event_for links (scene_of settled.entry.version settled.entry.subnets.now settled.entry.systems.now standing.now) counts (words_of line.now)) in
+    ensures event { let reading = at_line number (event_for links
+        (scene_of settled.entry.version settled.entry.subnets.now settled.entry.systems.now standing.now)
+        counts (words_of line.now)) in
         MatchResult result (λ event. reading ≡ Ok event) (λ refusal. Refuses refusal reading) }
     ensures few { IfOk result (λ event. are_few (counted counts event) ≡ true) }
 {
@@ -246,7 +253,8 @@ fn events_of(
     requires few { number + length (lines_of text.now) < 2 ^ 32 }
     requires subnets { length subnets.now ≤ 64 }
     requires systems { length systems.now ≤ 64 }
-    ensures { let reading = events_from (event_for links) (first_scene version skew subnets.now systems.now) number nothing_counted (lines_of text.now) in
+    ensures { let reading = events_from (event_for links)
+        (first_scene version skew subnets.now systems.now) number nothing_counted (lines_of text.now) in
         MatchResult result (λ events. reading ≡ Ok events.items) (λ refusal. Refuses refusal reading) }
 {
     let mut events = Vec::new(alloc);
@@ -298,7 +306,8 @@ fn systems_of(alloc: Global, systems: Vec<System>) -> Result<Vec<SystemConfig>, 
 /// `NoMemory` where memory is refused.
 pub fn read(alloc: Global, text: &[u8]) -> Result<Scenario, ScenarioRefusal>
     requires { length (lines_of text.now) < 2 ^ 32 - 1 }
-    ensures { MatchResult result (λ scenario. plan_of text.now ≡ Ok scenario) (λ refusal. Refuses refusal (plan_of text.now)) }
+    ensures { MatchResult result (λ scenario. plan_of text.now ≡ Ok scenario)
+        (λ refusal. Refuses refusal (plan_of text.now)) }
 {
     read_as(alloc, None, NEWEST_VERSION, text)
 }
@@ -310,7 +319,8 @@ pub fn read(alloc: Global, text: &[u8]) -> Result<Scenario, ScenarioRefusal>
 /// As `read`.
 pub fn read_version_1(alloc: Global, text: &[u8]) -> Result<Scenario, ScenarioRefusal>
     requires { length (lines_of text.now) < 2 ^ 32 - 1 }
-    ensures says { MatchResult result (λ scenario. plan_of_version_1 text.now ≡ Ok scenario) (λ refusal. Refuses refusal (plan_of_version_1 text.now)) }
+    ensures says { MatchResult result (λ scenario. plan_of_version_1 text.now ≡ Ok scenario)
+        (λ refusal. Refuses refusal (plan_of_version_1 text.now)) }
     ensures version { IfOk result (λ scenario. scenario.version ≡ 1) }
 {
     // Its clause: a scenario that is accepted where version 1 alone is read is one of version 1.
@@ -318,16 +328,18 @@ pub fn read_version_1(alloc: Global, text: &[u8]) -> Result<Scenario, ScenarioRe
     read_as(alloc, None, 1, text)
 }
 
-/// What a scenario text says for a live node on a board of so many links: what `read` gives, where one system is declared
-/// alone, with a port for each link, and the events are `send`, `echo` and `tick` alone.
+/// What a scenario text says for a live node on a board of so many links: what `read` gives, where one system is
+/// declared alone, with a port for each link, and the events are `send`, `echo` and `tick` alone.
 ///
 /// # Errors
 ///
-/// As `read`. `BadLine` comes besides with the line `events` and the code of a count, where as many systems or ports are
-/// not declared and nothing else is wrong there; and with the line of another event and the code of an unknown word.
+/// As `read`. `BadLine` comes besides with the line `events` and the code of a count, where as many systems or ports
+/// are not declared and nothing else is wrong there; and with the line of another event and the code of an unknown
+/// word.
 pub fn read_for_run(alloc: Global, text: &[u8], links: usize) -> Result<Scenario, ScenarioRefusal>
     requires { length (lines_of text.now) < 2 ^ 32 - 1 }
-    ensures says { MatchResult result (λ scenario. run_plan_of links text.now ≡ Ok scenario) (λ refusal. Refuses refusal (run_plan_of links text.now)) }
+    ensures says { MatchResult result (λ scenario. run_plan_of links text.now ≡ Ok scenario)
+        (λ refusal. Refuses refusal (run_plan_of links text.now)) }
     ensures alike { IfOk result (λ scenario. plan_of text.now ≡ Ok scenario) }
     ensures fits { IfOk result (λ scenario. IsForBoard links scenario) }
 {

@@ -1,6 +1,6 @@
-//! What events change of what is declared: where the ports of systems are, for which prefixes routers have routes, and how far
-//! clocks went on.
-ghost use Rattle.std.specs.Prelude.{◌≡◌, ◌≤◌, ◌<◌, ◌+◌, ◌^◌, ◌++◌, ◌&&◌, ◌||◌, not, nat_lt, map, length, slice_get, IfOk, OnOk};
+//! What events change of what is declared: where the ports of systems are, for which prefixes routers have routes, and
+//! how far clocks went on.
+ghost use Rattle.std.specs.Prelude.{◌≡◌, ◌≤◌, ◌<◌, ◌+◌, ◌^◌, ◌++◌, ◌&&◌, ◌||◌, nat_lt, map, length, slice_get, IfOk, OnOk};
 ghost use Rattle.std.specs.List.{AllByRecursion, list_any};
 ghost use Rattle.scenario.specs.Scenario.{ticks_of};
 ghost use Rattle.scenario.specs.Standing.{changed_at, first_clocks, is_ahead, is_among, is_port, is_rival, is_second, moved, prefixes_of, runs_ahead, spots_from, spots_of, standing_after, standing_of, takes_prefix, with_prefix, without_prefix};
@@ -239,7 +239,8 @@ fn is_above(skew: u16, clock: u64, others: &[u32]) -> bool
 
 /// Whether the clock at a place would stand more than so many ticks above another one, so many ticks later.
 fn runs_ahead(clocks: &[u32], skew: u16, place: usize, count: u32) -> bool
-    ensures { let later = changed_at (λ clock. clock + count) place clocks.now in result ≡ is_ahead skew (slice_get later place) later }
+    ensures { let later = changed_at (λ clock. clock + count) place clocks.now in
+        result ≡ is_ahead skew (slice_get later place) later }
 {
     if place >= clocks.len() {
         return false;
@@ -252,7 +253,8 @@ fn runs_ahead(clocks: &[u32], skew: u16, place: usize, count: u32) -> bool
 
 /// Whether a clock stands more than so many ticks above one of some, or one of others.
 fn is_above_both(skew: u16, clock: u64, before: &[u32], behind: &[u32]) -> bool
-    ensures { result ≡ list_any (λ other. nat_lt (other + skew) clock) before.now || list_any (λ other. nat_lt (other + skew) clock) behind.now }
+    ensures { result ≡ list_any (λ other. nat_lt (other + skew) clock) before.now
+        || list_any (λ other. nat_lt (other + skew) clock) behind.now }
 {
     is_above(skew, clock, before) || is_above(skew, clock, behind)
 }
@@ -279,7 +281,12 @@ impl Model for Standing {
 
     ghost Value = { Standing };
 
-    ghost view = { λ s. record { spots = s.spots.items; prefixes = s.prefixes.items; clocks = s.clocks.items; skew = s.skew } };
+    ghost view = { λ s. record {
+      spots = s.spots.items;
+      prefixes = s.prefixes.items;
+      clocks = s.clocks.items;
+      skew = s.skew;
+    } };
 }
 
 impl Standing {

@@ -130,7 +130,14 @@ impl Model for System {
 impl System {
     /// A system with neither an address nor a port nor a route.
     pub(crate) fn new(alloc: Global, name: Vec<u8>, role: Role, settings: Settings) -> System
-        ensures { result ≡ record { name = name.items; role = role; settings = settings; addresses = []; ports = []; routes = [] } }
+        ensures { result ≡ record {
+          name = name.items;
+          role = role;
+          settings = settings;
+          addresses = [];
+          ports = [];
+          routes = [];
+        } }
     {
         System {
             name,
@@ -199,20 +206,23 @@ impl System {
 
     /// Whether it has a port with this number or one on this subnetwork.
     pub(crate) fn has_port(&self, number: u8, subnet: u8) -> bool
-        ensures { result ≡ list_any (λ numbered. (numbered.number == number) || (numbered.port.subnet == subnet)) self.now.ports }
+        ensures { result ≡ list_any (λ numbered. (numbered.number == number)
+            || (numbered.port.subnet == subnet)) self.now.ports }
     {
         self.ports.iter().any(|port| port.is_at(number, subnet))
     }
 
     /// Whether it has this address on this subnetwork.
     pub(crate) fn has_snpa(&self, subnet: u8, snpa: &Snpa) -> bool
-        ensures { result ≡ list_any (λ numbered. (numbered.port.subnet == subnet) && pointwise nat_eq numbered.port.snpa snpa.now) self.now.ports }
+        ensures { result ≡ list_any (λ numbered. (numbered.port.subnet == subnet)
+            && pointwise nat_eq numbered.port.snpa snpa.now) self.now.ports }
     {
         self.ports.iter().any(|port| port.has_snpa(subnet, snpa))
     }
 
     pub(crate) fn add_address(&mut self, address: Address) -> Result<(), LineFault>
-        ensures { MatchResult result (λ _. self.new ≡ with_address address self.old) (λ fault. fault ≡ LineFault.NoMemory) }
+        ensures { MatchResult result (λ _. self.new ≡ with_address address self.old)
+            (λ fault. fault ≡ LineFault.NoMemory) }
     {
         self.addresses.push(address)?;
         Ok(())

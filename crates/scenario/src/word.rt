@@ -3,7 +3,7 @@ ghost use Rattle.std.specs.Prelude.{◌≡◌, ◌<◌, ◌≤◌, length, IfOk,
 ghost use Rattle.std.specs.List.{list_all, list_any, position};
 ghost use Rattle.clnp_plan.specs.ClnpBase.Text.{words_of, is_digit, decimal_of};
 ghost use Rattle.scenario.specs.Grammar.{is_line_of};
-ghost use Rattle.scenario.specs.Words.{one_word, two_words, three_words, four_words, five_words, first_two, first_four, is_one_at_most, wanted, found, literal, is_letter_or_digit, begins_with_letter, is_name, is_digits, is_skipped, number_within, name_word, number_word, address_word, prefix_word, has_prefix, after_prefix, octets_behind, number_behind, is_colon, two_fields, pattern_word, data_word, life_word, options_read, options_word, target_word, frame_word};
+ghost use Rattle.scenario.specs.Words.{one_word, two_words, three_words, four_words, five_words, first_two, first_four, is_one_at_most, wanted, found, literal, is_letter_or_digit, begins_with_letter, is_name, is_digits, number_within, name_word, number_word, address_word, prefix_word, has_prefix, after_prefix, octets_behind, number_behind, is_colon, two_fields, pattern_word, data_word, life_word, options_read, options_word, target_word, frame_word};
 ghost use Rattle.scenario.specs.Refusal.{Faults};
 ghost use Rattle.scenario.specs.declared.code.Code.TheVariants as bad;
 
@@ -17,7 +17,8 @@ use std::alloc::Global;
 
 /// The word of a line that has one word.
 pub(crate) fn one_word(line: &[u8]) -> Option<&[u8]>
-    ensures { MatchOption result (one_word (words_of line.now) ≡ None) (λ word. one_word (words_of line.now) ≡ Some word.now) }
+    ensures { MatchOption result (one_word (words_of line.now) ≡ None)
+        (λ word. one_word (words_of line.now) ≡ Some word.now) }
 {
     let (word, line) = next_word(line)?;
     match next_word(line) {
@@ -59,7 +60,8 @@ pub(crate) fn four_words(line: &[u8]) -> Option<(&[u8], &[u8], &[u8], &[u8])>
 /// The words of a line that has five words.
 pub fn five_words(line: &[u8]) -> Option<(&[u8], &[u8], &[u8], &[u8], &[u8])>
     ensures { MatchOption result (five_words (words_of line.now) ≡ None)
-        (λ words. five_words (words_of line.now) ≡ Some (words.0.now, words.1.now, words.2.now, words.3.now, words.4.now)) }
+        (λ words. five_words (words_of line.now)
+        ≡ Some (words.0.now, words.1.now, words.2.now, words.3.now, words.4.now)) }
 {
     let (a, line) = next_word(line)?;
     let (b, c, d, e) = four_words(line)?;
@@ -89,7 +91,8 @@ pub(crate) fn first_two(line: &[u8]) -> Option<(&[u8], &[u8], &[u8])>
 /// The first four words of a line, and the rest of it.
 pub(crate) fn first_four(line: &[u8]) -> Option<(&[u8], &[u8], &[u8], &[u8], &[u8])>
     ensures { MatchOption result (first_four (words_of line.now) ≡ None)
-        (λ words. first_four (words_of line.now) ≡ Some (words.0.now, words.1.now, words.2.now, words.3.now, words_of words.4.now)) }
+        (λ words. first_four (words_of line.now)
+        ≡ Some (words.0.now, words.1.now, words.2.now, words.3.now, words_of words.4.now)) }
 {
     let (a, line) = next_word(line)?;
     let (b, line) = next_word(line)?;
@@ -105,16 +108,6 @@ pub fn is_line_of(text: &[u8], line: &[u8]) -> bool
     match one_word(line) {
         Some(word) => same(word, text),
         None => false,
-    }
-}
-
-/// Whether a line is empty or begins with `#`.
-pub fn is_skipped(line: &[u8]) -> bool
-    ensures { result ≡ is_skipped line.now }
-{
-    match line {
-        [first, ..] => *first == b'#',
-        [] => true,
     }
 }
 
@@ -419,7 +412,8 @@ fn options_read(octets: &[u8]) -> Result<OptionList, Code>
 
 /// `opt=` and the octets of options, in hexadecimal digits.
 pub(crate) fn options_word(alloc: Global, word: &[u8]) -> Result<OptionList, LineFault>
-    ensures { MatchResult result (λ options. options_word word.now ≡ Ok options) (λ fault. Faults fault (options_word word.now)) }
+    ensures { MatchResult result (λ options. options_word word.now ≡ Ok options)
+        (λ fault. Faults fault (options_word word.now)) }
 {
     let octets = octets_behind(alloc, b"opt=", word)?;
     match options_read(&octets) {

@@ -392,7 +392,8 @@ fn push_count(keyword: &[u8], count: u32, out: &mut Vec<u8>) -> Result<(), NoMem
 
 /// Appends the line of a `send`, whose words before the lifetime are given.
 fn push_send<'a>(words: &[Word<'a>], ask: &Ask, out: &mut Vec<u8>) -> Result<(), NoMemory>
-    ensures { OnOk result (out.new.items ≡ out.old.items ++ line_of (codes "send") (map word_text words.now ++ ask_words ask.now)) }
+    ensures { OnOk result (out.new.items ≡ out.old.items
+        ++ line_of (codes "send") (map word_text words.now ++ ask_words ask.now)) }
 {
     push(b"send", out)?;
     push_words(words, out)?;
@@ -422,7 +423,8 @@ fn push_word_if(wanted: bool, word: &[u8], out: &mut Vec<u8>) -> Result<(), NoMe
 
 /// Appends the word of options, where there are some.
 fn push_options(options: &[u8], out: &mut Vec<u8>) -> Result<(), NoMemory>
-    ensures { OnOk result (out.new.items ≡ out.old.items ++ flat_map behind_space (canonical.options_words options.now)) }
+    ensures { OnOk result (out.new.items ≡ out.old.items
+        ++ flat_map behind_space (canonical.options_words options.now)) }
 {
     if options.is_empty() {
         return Ok(());

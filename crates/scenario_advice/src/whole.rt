@@ -4,9 +4,8 @@ use crate::form::has_role;
 use crate::grammar::{More, key_of};
 use crate::place::{Found, Mark, Place, begins, count_words, number_at, word_at};
 use scenario::Code;
-use scenario::clnp_base::{lines, same, words};
+use scenario::clnp_base::{is_skipped, lines, same, words};
 use scenario::nsap::{Address, Prefix, Snpa};
-use scenario::word::is_skipped;
 
 /// What is said of a line whose words are right each by itself.
 pub(crate) fn of_whole(

@@ -1,4 +1,4 @@
-use Rattle.std.proofs.Common.{◌≡◌, ◌++◌, ℕ, OnOk, ap, codes, subst}
+use Rattle.std.proofs.Common.{◌≡◌, ◌++◌, ℕ, OnOk, codes, subst}
 use Rattle.std.specs.Fmt.{decimal}
 use Rattle.captures.specs.Words.{pair_word}
 use Rattle.captures.proofs.Pieces.{three}

@@ -1,5 +1,4 @@
 -- From the start to the end.
-use Rattle.std.proofs.Common.{◌≡◌, ◌∙◌, List, ap, refl, sym}
 use Rattle.live_node.proofs.Runs.{only_one, ran_nowhere}
 use Rattle.live_node.proofs.run.run_node.Goals as goal
 

@@ -1,5 +1,4 @@
 -- All turns, and then the last line.
-use Rattle.std.proofs.Common.{◌≡◌, List}
 use Rattle.live_node.proofs.Runs.{ran_ended, ran_stopped}
 use Rattle.live_node.proofs.run.run_opened.Goals as goal
 

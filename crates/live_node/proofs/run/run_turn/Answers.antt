@@ -1,5 +1,5 @@
 -- A turn, and whether a link is attached behind it.
-use Rattle.std.proofs.Common.{◌≡◌, ◌∙◌, List, ap, refl, subst, sym}
+use Rattle.std.proofs.Common.{◌∙◌, subst, sym}
 use Rattle.live_node.specs.Agenda.{dues_of}
 use Rattle.live_node.specs.declared.run.RunStop.{RunStop}
 use Rattle.live_node.specs.Ran.{StopsIn}

@@ -1,11 +1,9 @@
 -- One turn after another.
-use Rattle.std.proofs.Common.{◌≡◌, ◌≤◌, ◌∙◌, List, refl, ap, sym, subst, arith}
-use Rattle.live_model.specs.Node.{Node}
+use Rattle.std.proofs.Common.{◌≡◌, ◌∙◌, List, refl, ap, sym, subst, arith}
 use Rattle.live_model.specs.Turn.{Due, dues_from}
 use Rattle.live_node.specs.Agenda.{dues_of}
 use Rattle.live_node.specs.declared.agenda.Agenda.{Agenda}
-use Rattle.live_node.specs.Plays.{Stands}
-use Rattle.live_node.specs.Ran.{RanTo, StopsIn}
+use Rattle.live_node.specs.Ran.{RanTo}
 use Rattle.live_node.proofs.Courses.{ran_more, ran_nothing, stops_behind}
 use Rattle.live_node.proofs.run.run_turns.Goals as goal
 

@@ -1,5 +1,5 @@
 -- The system takes a step, and what it gives out goes out.
-use Rattle.std.proofs.Common.{◌≡◌, ◌∙◌, false, List, ap, refl, sym, subst}
+use Rattle.std.proofs.Common.{◌∙◌, List, ap, refl, sym, subst}
 use Rattle.std.proofs.lemmas.Result.{on_err_weaker, on_ok_weaker}
 use Rattle.clnp_machine.specs.ClnpPlan.declared.output.Output.{Output}
 use Rattle.clnp_machine.specs.Content.{Content}

@@ -1,19 +1,17 @@
 -- One event after another.
 use Rattle.std.proofs.Common.{◌≡◌, ◌≤◌, ◌<◌, ◌+◌, ◌∙◌, ℕ, List, ap, refl, sym, subst, drop, length, get_or, arith}
 use Rattle.clnp_machine.specs.ClnpPlan.Configuration.{SystemConfiguration}
-use Rattle.clnp_machine.specs.ClnpPlan.declared.config.Role.{Role}
 use Rattle.clnp_machine.specs.System.{Input}
 use Rattle.clnp_systems.specs.Stands as clnp_systems
 use Rattle.scenario.specs.Scenario.{ticks_of}
 use Rattle.scenario.specs.declared.event.Event.{Event}
 use Rattle.live_model.specs.Node.{Node, Outcome, and_then, come_all}
-use Rattle.live_model.specs.Turn.{Due, asked_by, due_behind}
+use Rattle.live_model.specs.Turn.{Due, asked_by}
 use Rattle.live_node.specs.Agenda.{asks_by, dues_of}
 use Rattle.live_node.specs.declared.agenda.Agenda.{Agenda}
 use Rattle.live_node.proofs.Breaking.{breaks_as, breaks_first, breaks_next, idle_come_all, on_err}
 use Rattle.live_node.proofs.Dues.{asks_next, asks_none, left_all, left_next, no_dues}
 use Rattle.live_node.proofs.Playing.{plays_to_end, plays_to_next, plays_to_start}
-use Rattle.live_node.proofs.Ports.{later_rose}
 use Rattle.live_node.proofs.Inputs.{come_next}
 use Rattle.live_node.proofs.node.LiveNode.do_due.Goals as goal
 

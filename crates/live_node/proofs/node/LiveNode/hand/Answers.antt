@@ -1,5 +1,5 @@
 -- A frame comes to the system.
-use Rattle.std.proofs.Common.{◌≡◌, ◌∙◌, ℕ, List, Some, ap, refl, sym, arith}
+use Rattle.std.proofs.Common.{◌∙◌, Some, refl, sym, arith}
 use Rattle.std.proofs.lemmas.Result.{on_err_weaker, on_ok_weaker}
 use Rattle.hex.specs.Hex.{IsBytes}
 use Rattle.clnp_machine.specs.Content.{content_of}

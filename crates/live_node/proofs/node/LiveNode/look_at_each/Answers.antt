@@ -1,5 +1,5 @@
 -- One port after another.
-use Rattle.std.proofs.Common.{◌≡◌, ◌≤◌, ℕ, ◌+◌, ◌-◌, List, [], length, ap, refl, sym, subst, ◌∙◌, arith}
+use Rattle.std.proofs.Common.{ℕ, ◌+◌, ◌-◌, List, ap, refl, sym, subst, ◌∙◌, arith}
 use Rattle.std.specs.List.{range_with_len}
 use Rattle.live_model.specs.Node.{Node, Outcome, looks_at, looks_at_each}
 use Rattle.live_node.specs.Plays.{PlaysTo}

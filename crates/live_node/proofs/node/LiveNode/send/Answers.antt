@@ -1,11 +1,11 @@
 -- A host is asked, and no router.
-use Rattle.std.proofs.Common.{◌≡◌, ◌∙◌, List, [], ◌∷◌, ap, refl, sym}
+use Rattle.std.proofs.Common.{◌∙◌, [], ◌∷◌, ap, refl, sym}
 use Rattle.std.proofs.lemmas.Result.{on_err_weaker, on_ok_weaker}
 use Rattle.clnp_machine.specs.ClnpPlan.Configuration.{SystemConfiguration}
 use Rattle.clnp_machine.specs.ClnpPlan.declared.config.Role.{Role}
 use Rattle.clnp_machine.specs.System.{Input, AsksToSend}
 use Rattle.scenario.specs.Scenario.{octets_of}
-use Rattle.live_model.specs.Node.{Outcome, Goes, come_all}
+use Rattle.live_model.specs.Node.{Goes, come_all}
 use Rattle.live_model.specs.Turn.{of_host}
 use Rattle.live_node.proofs.Breaking.{breaks_as}
 use Rattle.live_node.proofs.Playing.{plays_as, plays_nothing}

@@ -1,11 +1,11 @@
 -- A unit is asked for.
-use Rattle.std.proofs.Common.{◌≡◌, ◌∙◌, List, [], ◌∷◌, ℕ, ap, refl, sym}
+use Rattle.std.proofs.Common.{◌∙◌, List, [], ◌∷◌, refl}
 use Rattle.std.proofs.lemmas.Result.{on_err_weaker, on_ok_weaker}
 use Rattle.clnp_machine.specs.Content.{Unlabelled}
 use Rattle.clnp_machine.specs.System.{Input, AsksToSend}
 use Rattle.scenario.specs.Scenario.{octets_of}
-use Rattle.live_model.specs.Node.{Node, Outcome, come_all, comes}
-use Rattle.live_node.proofs.Breaking.{breaks_as, breaks_nothing, idle_come_all, on_err}
+use Rattle.live_model.specs.Node.{come_all}
+use Rattle.live_node.proofs.Breaking.{breaks_as, breaks_nothing, idle_come_all}
 use Rattle.live_node.proofs.Playing.{plays_as}
 use Rattle.live_node.proofs.Inputs.{comes_as}
 use Rattle.live_node.proofs.node.LiveNode.send_unit.Goals as goal
