@@ -10,7 +10,7 @@ ghost use Rattle.capture_commands.specs.Check.{checking, counting, first_checked
 
 use crate::fault::fault_of;
 use captures::{Verdict, check_line, laws};
-use command_base::clnp_base::{NoMemory, Sink, next_line, push};
+use command_base::clnp_base::{DigitValues, NoMemory, Sink, next_line, push};
 use command_base::{
     LineFault, LineStop, Status, push_number, refuse, write_block, write_full_block,
 };
@@ -55,6 +55,7 @@ pub fn check<K: Sink>(alloc: Global, text: &[u8], sink: &mut K) -> Status
 {
     // Its clause: vectors behind a stop have their verdicts too.
     every_vector_is_judged();
+    let values = DigitValues::new();
     let mut block = Vec::new(alloc);
     let mut tally = Tally {
         passed: 0,
@@ -64,7 +65,7 @@ pub fn check<K: Sink>(alloc: Global, text: &[u8], sink: &mut K) -> Status
     let mut left = text;
     while let Some((line, others)) = next_line(left) {
         number += 1;
-        match check_next(alloc, line, number, tally, &mut block, sink) {
+        match check_next(alloc, &values, line, number, tally, &mut block, sink) {
             Ok(counts) => {
                 tally = counts;
                 left = others;
@@ -88,6 +89,7 @@ fn every_vector_is_judged()
 /// Answers the counts after the line.
 fn check_next<K: Sink>(
     alloc: Global,
+    values: &DigitValues,
     line: &[u8],
     number: u32,
     tally: Tally,
@@ -105,7 +107,7 @@ fn check_next<K: Sink>(
     ensures counted { IfOk result (λ counts. counts.passed + counts.failed ≤ tally.passed + tally.failed + 1) }
     ensures failed { result ≡ Err LineStop.WriteFault → Rose (K.faults sink.old) (K.faults sink.new) }
 {
-    match push_line(alloc, line, number, tally, block) {
+    match push_line(alloc, values, line, number, tally, block) {
         Ok(counts) => match write_full_block(block, sink) {
             Ok(()) => Ok(counts),
             Err(stop) => Err(stop),
@@ -118,6 +120,7 @@ fn check_next<K: Sink>(
 /// after it.
 fn push_line(
     alloc: Global,
+    values: &DigitValues,
     line: &[u8],
     number: u32,
     tally: Tally,
@@ -129,7 +132,7 @@ fn push_line(
         number line.now block.old.items block.new.items result }
     ensures counted { IfOk result (λ counts. counts.passed + counts.failed ≤ tally.passed + tally.failed + 1) }
 {
-    match check_line(alloc, line, number, block) {
+    match check_line(alloc, values, line, number, block) {
         Ok(Verdict::Skip) => Ok(tally),
         Ok(Verdict::Pass) => push_end(Verdict::Pass, tally, block),
         Ok(Verdict::Fail) => push_end(Verdict::Fail, tally, block),

@@ -9,7 +9,7 @@ ghost use Rattle.capture_commands.specs.Pack.{packing};
 
 use crate::fault::unpacked_fault;
 use capture_text::{laws, pack_line};
-use command_base::clnp_base::{Sink, next_line};
+use command_base::clnp_base::{DigitValues, Sink, next_line};
 use command_base::{LineFault, LineStop, Status, refuse, write_block, write_full_block};
 use std::alloc::Global;
 
@@ -21,12 +21,13 @@ pub fn pack<K: Sink>(alloc: Global, text: &[u8], sink: &mut K) -> Status
         (K.written sink.old) (K.written sink.new) result }
     ensures failed { result ≡ Status.WriteFault → Rose (K.faults sink.old) (K.faults sink.new) }
 {
+    let values = DigitValues::new();
     let mut block = Vec::new(alloc);
     let mut number = 0u32;
     let mut left = text;
     while let Some((line, others)) = next_line(left) {
         number += 1;
-        match pack_next(alloc, line, &mut block, sink) {
+        match pack_next(alloc, &values, line, &mut block, sink) {
             Ok(()) => left = others,
             Err(stop) => return stop.status(number),
         }
@@ -40,6 +41,7 @@ pub fn pack<K: Sink>(alloc: Global, text: &[u8], sink: &mut K) -> Status
 /// Puts the next line into the block, and writes the block where it is full or the line is bad.
 fn pack_next<K: Sink>(
     alloc: Global,
+    values: &DigitValues,
     line: &[u8],
     block: &mut Vec<u8>,
     sink: &mut K,
@@ -50,20 +52,25 @@ fn pack_next<K: Sink>(
         → NextOf packing 1 (λ done. number + 1) all left number before (K.written sink.new) block.new.items result }
     ensures failed { result ≡ Err LineStop.WriteFault → Rose (K.faults sink.old) (K.faults sink.new) }
 {
-    match push_line(alloc, line, block) {
+    match push_line(alloc, values, line, block) {
         Ok(()) => write_full_block(block, sink),
         Err(fault) => Err(refuse(fault, block, sink)),
     }
 }
 
 /// Puts the digits of the frame that a line packs to into the block, and the end of their line, if it packs to one.
-fn push_line(alloc: Global, line: &[u8], block: &mut Vec<u8>) -> Result<(), LineFault>
+fn push_line(
+    alloc: Global,
+    values: &DigitValues,
+    line: &[u8],
+    block: &mut Vec<u8>,
+) -> Result<(), LineFault>
     ensures { (number : ℕ) → PushOf packing number
         (λ done. number + 1) number line.now block.old.items block.new.items result }
 {
     // Its clause: one thing comes of a line.
     laws::the_outcome_of_a_line();
-    match pack_line(alloc, line, block) {
+    match pack_line(alloc, values, line, block) {
         Ok(false) => Ok(()),
         Ok(true) => push_end(block),
         Err(refusal) => Err(unpacked_fault(refusal)),

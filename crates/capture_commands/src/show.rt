@@ -10,7 +10,7 @@ ghost use Rattle.capture_commands.specs.Show.{showing};
 
 use crate::fault::fault_of;
 use captures::{laws, read_capture, show_line};
-use command_base::clnp_base::{Sink, next_line};
+use command_base::clnp_base::{DigitValues, Sink, next_line};
 use command_base::{LineFault, LineStop, Status, refuse, write_block, write_full_block};
 use std::alloc::Global;
 
@@ -24,13 +24,14 @@ pub fn show<K: Sink>(alloc: Global, text: &[u8], sink: &mut K) -> Status
 {
     // Its clause: frames behind a stop have their lines too.
     every_frame_is_shown();
+    let values = DigitValues::new();
     let mut frame = Vec::new(alloc);
     let mut block = Vec::new(alloc);
     let mut number = 0u32;
     let mut left = text;
     while let Some((line, others)) = next_line(left) {
         number += 1;
-        match show_next(alloc, line, &mut frame, &mut block, sink) {
+        match show_next(&values, line, &mut frame, &mut block, sink) {
             Ok(()) => left = others,
             Err(stop) => return stop.status(number),
         }
@@ -52,7 +53,7 @@ fn every_frame_is_shown()
 /// Puts the next line into the block, and writes the block where it is full or the line is bad.
 /// `frame` is a list to use for its frame.
 fn show_next<K: Sink>(
-    alloc: Global,
+    values: &DigitValues,
     line: &[u8],
     frame: &mut Vec<u8>,
     block: &mut Vec<u8>,
@@ -64,7 +65,7 @@ fn show_next<K: Sink>(
         → NextOf showing 1 (λ done. number + 1) all left number before (K.written sink.new) block.new.items result }
     ensures failed { result ≡ Err LineStop.WriteFault → Rose (K.faults sink.old) (K.faults sink.new) }
 {
-    match push_line(alloc, line, frame, block) {
+    match push_line(values, line, frame, block) {
         Ok(()) => write_full_block(block, sink),
         Err(fault) => Err(refuse(fault, block, sink)),
     }
@@ -72,7 +73,7 @@ fn show_next<K: Sink>(
 
 /// Puts the line that shows the frame of a line into the block, if it has one.
 fn push_line(
-    alloc: Global,
+    values: &DigitValues,
     line: &[u8],
     frame: &mut Vec<u8>,
     block: &mut Vec<u8>,
@@ -81,20 +82,20 @@ fn push_line(
         (λ done. number + 1) number line.now block.old.items block.new.items result }
 {
     frame.clear();
-    match read_capture(line, frame) {
-        Ok(true) => push_shown(alloc, frame.as_slice(), block),
+    match read_capture(values, line, frame) {
+        Ok(true) => push_shown(frame.as_slice(), block),
         Ok(false) => Ok(()),
         Err(refusal) => Err(fault_of(refusal)),
     }
 }
 
 /// Puts the line that shows a frame, and its end, into the block.
-fn push_shown(alloc: Global, frame: &[u8], block: &mut Vec<u8>) -> Result<(), LineFault>
+fn push_shown(frame: &[u8], block: &mut Vec<u8>) -> Result<(), LineFault>
     ensures shown { OnOk result ((line : List ℕ) × Shows frame.now line
         × (block.new.items ≡ (block.old.items ++ line) ++ (10 ∷ []))) }
     ensures refused { (fault : LineFault) → result ≡ Err fault → fault ≡ LineFault.NoMemory }
 {
-    if show_line(alloc, frame, block).is_err() || block.push(b'\n').is_err() {
+    if show_line(frame, block).is_err() || block.push(b'\n').is_err() {
         return Err(LineFault::NoMemory);
     }
     Ok(())

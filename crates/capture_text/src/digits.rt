@@ -5,17 +5,22 @@ ghost use Rattle.capture_text.specs.Said.{number_in, octets_in, with_counted, wi
 ghost use Rattle.capture_text.specs.View.{Misses};
 
 use crate::refusal::PackRefusal;
-use captures::clnp_base::{HexFault, decimal, push, push_unhex};
+use captures::clnp_base::{DigitValues, HexFault, decimal, push};
+use captures::push_spelled;
 
 /// The most octets that one octet counts.
 const MOST_COUNTED: usize = 255;
 
 /// Appends the octets that hexadecimal digits spell.
-pub(crate) fn push_octets_in(digits: &[u8], out: &mut Vec<u8>) -> Result<(), PackRefusal>
+pub(crate) fn push_octets_in(
+    values: &DigitValues,
+    digits: &[u8],
+    out: &mut Vec<u8>,
+) -> Result<(), PackRefusal>
     ensures { let reading = with_octets out.old.items digits.now in
         MatchResult result (λ _. reading ≡ Some out.new.items) (λ refusal. Misses refusal reading) }
 {
-    match push_unhex(digits, out) {
+    match push_spelled(values, digits, out) {
         Ok(()) => Ok(()),
         Err(HexFault::OddLength) => Err(PackRefusal::NotShown),
         Err(HexFault::BadDigit) => Err(PackRefusal::NotShown),
@@ -24,7 +29,11 @@ pub(crate) fn push_octets_in(digits: &[u8], out: &mut Vec<u8>) -> Result<(), Pac
 }
 
 /// Appends the octets that hexadecimal digits spell, behind their number.
-pub(crate) fn push_counted_in(digits: &[u8], out: &mut Vec<u8>) -> Result<(), PackRefusal>
+pub(crate) fn push_counted_in(
+    values: &DigitValues,
+    digits: &[u8],
+    out: &mut Vec<u8>,
+) -> Result<(), PackRefusal>
     ensures { let reading = with_counted out.old.items digits.now in
         MatchResult result (λ _. reading ≡ Some out.new.items) (λ refusal. Misses refusal reading) }
 {
@@ -33,11 +42,15 @@ pub(crate) fn push_counted_in(digits: &[u8], out: &mut Vec<u8>) -> Result<(), Pa
         return Err(PackRefusal::NotShown);
     }
     push(&[count as u8], out)?;
-    push_octets_in(digits, out)
+    push_octets_in(values, digits, out)
 }
 
 /// Appends an option: its code, the length of its value, its value.
-pub(crate) fn push_option_in(text: &[u8], out: &mut Vec<u8>) -> Result<(), PackRefusal>
+pub(crate) fn push_option_in(
+    values: &DigitValues,
+    text: &[u8],
+    out: &mut Vec<u8>,
+) -> Result<(), PackRefusal>
     ensures { let reading = with_option out.old.items text.now in
         MatchResult result (λ _. reading ≡ Some out.new.items) (λ refusal. Misses refusal reading) }
 {
@@ -46,8 +59,8 @@ pub(crate) fn push_option_in(text: &[u8], out: &mut Vec<u8>) -> Result<(), PackR
     }
     let (code, _) = text.split_at(2);
     let (_, value) = text.split_at(3);
-    push_octets_in(code, out)?;
-    push_counted_in(value, out)
+    push_octets_in(values, code, out)?;
+    push_counted_in(values, value, out)
 }
 
 /// The number that decimal digits spell, where two octets hold it.

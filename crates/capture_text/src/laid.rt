@@ -7,7 +7,7 @@ ghost use Rattle.capture_text.specs.View.{Misses, said_by};
 use crate::pieces::{Pieces, pieces_of};
 use crate::refusal::PackRefusal;
 use crate::words::{octet_5, type_of};
-use captures::clnp_base::{next_word, push, same};
+use captures::clnp_base::{DigitValues, next_word, push, same};
 use std::alloc::Global;
 
 /// The first octet of a CLNP PDU (ISO 8473, section 7.2.2).
@@ -43,7 +43,11 @@ const REDIRECT: u8 = 6;
 ///
 /// `NotShown` where the words of the line are those of no frame, and `NoMemory`.
 #[tactic(auto, unfolding(crate::specs::Laid::frame_of))]
-pub(crate) fn frame_of(alloc: Global, line: &[u8]) -> Result<Vec<u8>, PackRefusal>
+pub(crate) fn frame_of(
+    alloc: Global,
+    values: &DigitValues,
+    line: &[u8],
+) -> Result<Vec<u8>, PackRefusal>
     ensures { let reading = frame_of (words_of line.now) in
         MatchResult result (λ frame. reading ≡ Some frame.items) (λ refusal. Misses refusal reading) }
 {
@@ -51,25 +55,25 @@ pub(crate) fn frame_of(alloc: Global, line: &[u8]) -> Result<Vec<u8>, PackRefusa
         return Err(PackRefusal::NotShown);
     };
     if same(first, b"clnp") {
-        return clnp_words(alloc, others);
+        return clnp_words(alloc, values, others);
     }
     if same(first, b"esh") {
-        let pieces = pieces_of(alloc, others)?;
+        let pieces = pieces_of(alloc, values, others)?;
         return esis_frame(alloc, END_SYSTEM_HELLO, &[pieces.addresses], &pieces);
     }
     if same(first, b"ish") {
-        let pieces = pieces_of(alloc, others)?;
+        let pieces = pieces_of(alloc, values, others)?;
         return esis_frame(alloc, INTERMEDIATE_SYSTEM_HELLO, &[], &pieces);
     }
     if same(first, b"rd") {
-        let pieces = pieces_of(alloc, others)?;
+        let pieces = pieces_of(alloc, values, others)?;
         return esis_frame(alloc, REDIRECT, &[], &pieces);
     }
     Err(PackRefusal::NotShown)
 }
 
 /// The frame of a CLNP PDU, from its kind on.
-fn clnp_words(alloc: Global, line: &[u8]) -> Result<Vec<u8>, PackRefusal>
+fn clnp_words(alloc: Global, values: &DigitValues, line: &[u8]) -> Result<Vec<u8>, PackRefusal>
     ensures { let reading = clnp_words (words_of line.now) in
         MatchResult result (λ frame. reading ≡ Some frame.items) (λ refusal. Misses refusal reading) }
 {
@@ -82,7 +86,7 @@ fn clnp_words(alloc: Global, line: &[u8]) -> Result<Vec<u8>, PackRefusal>
     let Some(code) = type_of(kind) else {
         return Err(PackRefusal::NotShown);
     };
-    let pieces = pieces_of(alloc, others)?;
+    let pieces = pieces_of(alloc, values, others)?;
     clnp_frame(alloc, octet_5(letters, code), &pieces)
 }
 

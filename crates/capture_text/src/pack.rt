@@ -11,7 +11,7 @@ ghost use Rattle.capture_text.specs.Packing.{IsNotShown, Lacks, Packs, PacksTooM
 use crate::laid::frame_of;
 use crate::refusal::PackRefusal;
 use crate::words::is_unpackable;
-use captures::clnp_base::{push_hex, same};
+use captures::clnp_base::{DigitValues, push_hex, same};
 use captures::{MOST_OCTETS, is_skipped, laws, show_line};
 use std::alloc::Global;
 
@@ -21,14 +21,19 @@ use std::alloc::Global;
 /// A line is skipped where it is empty or begins with `#`. Otherwise it packs to the one frame, if there is one, that
 /// is accepted as a PDU of CLNP or ES-IS (ISO 8473, section 7; ISO 9542, section 7) and is shown by this very line:
 /// `ish hold=120 sum=b1cd title=470027ff rest=` packs to `820e0100040078b1cd04470027ff`. The frame is written in
-/// hexadecimal digits in lower case.
+/// hexadecimal digits in lower case. `values` is what digits are worth, to be asked once for all lines.
 ///
 /// # Errors
 ///
 /// `NotPackable` where the line is `alien` or begins with `refused `; `NotShown` where it has another form and no
 /// accepted frame is shown by it; `Count` where its frame has more than 70,000 octets; and `NoMemory`. Unless the
 /// answer is true, `out` is as it was.
-pub fn pack_line(alloc: Global, line: &[u8], out: &mut Vec<u8>) -> Result<bool, PackRefusal>
+pub fn pack_line(
+    alloc: Global,
+    values: &DigitValues,
+    line: &[u8],
+    out: &mut Vec<u8>,
+) -> Result<bool, PackRefusal>
     ensures skipped { (result ≡ Ok false) ↔ (is_skipped line.now ≡ true) }
     ensures not_packable { (result ≡ Err PackRefusal.NotPackable) ↔ (is_unpackable line.now ≡ true) }
     ensures not_shown { result ≢ Err PackRefusal.NoMemory
@@ -41,11 +46,16 @@ pub fn pack_line(alloc: Global, line: &[u8], out: &mut Vec<u8>) -> Result<bool, 
         → out.new.items ≡ out.old.items ++ hex_text frame }
     ensures same { result ≢ Ok true → out.new.items ≡ out.old.items }
 {
-    pack_told(alloc, line, out)
+    pack_told(alloc, values, line, out)
 }
 
 /// Packs a line; the answer tells what the line is.
-fn pack_told(alloc: Global, line: &[u8], out: &mut Vec<u8>) -> Result<bool, PackRefusal>
+fn pack_told(
+    alloc: Global,
+    values: &DigitValues,
+    line: &[u8],
+    out: &mut Vec<u8>,
+) -> Result<bool, PackRefusal>
     ensures told { Tells result line.now }
     ensures written { (frame : List ℕ) → result ≡ Ok true → Packs line.now frame
         → out.new.items ≡ out.old.items ++ hex_text frame }
@@ -57,7 +67,7 @@ fn pack_told(alloc: Global, line: &[u8], out: &mut Vec<u8>) -> Result<bool, Pack
     if is_unpackable(line) {
         return Err(PackRefusal::NotPackable);
     }
-    let frame = packed(alloc, line)?;
+    let frame = packed(alloc, values, line)?;
     if frame.len() > MOST_OCTETS {
         return Err(PackRefusal::Count);
     }
@@ -66,11 +76,11 @@ fn pack_told(alloc: Global, line: &[u8], out: &mut Vec<u8>) -> Result<bool, Pack
 }
 
 /// The frame that a line packs to: the one that its words can say, where that is shown by this line.
-fn packed(alloc: Global, line: &[u8]) -> Result<Vec<u8>, PackRefusal>
+fn packed(alloc: Global, values: &DigitValues, line: &[u8]) -> Result<Vec<u8>, PackRefusal>
     requires { is_unpackable line.now ≡ false }
     ensures { MatchResult result (λ frame. Packs line.now frame.items) (λ refusal. Lacks refusal line.now) }
 {
-    match frame_of(alloc, line) {
+    match frame_of(alloc, values, line) {
         Ok(frame) => shown_by(alloc, line, frame),
         Err(refusal) => Err(refusal),
     }
@@ -99,6 +109,6 @@ fn shown(alloc: Global, frame: &[u8], room: usize) -> Result<Vec<u8>, PackRefusa
     ensures octets { IsBytes frame.now }
 {
     let mut line = Vec::with_capacity(alloc, room)?;
-    show_line(alloc, frame, &mut line)?;
+    show_line(frame, &mut line)?;
     Ok(line)
 }

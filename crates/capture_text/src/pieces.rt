@@ -10,7 +10,7 @@ use crate::digits::{
 };
 use crate::refusal::PackRefusal;
 use crate::words::behind;
-use captures::clnp_base::next_word;
+use captures::clnp_base::{DigitValues, next_word};
 use std::alloc::Global;
 
 /// The most addresses that one octet counts.
@@ -34,14 +34,18 @@ pub(crate) struct Pieces {
 }
 
 /// What the words of a line say together.
-pub(crate) fn pieces_of(alloc: Global, line: &[u8]) -> Result<Pieces, PackRefusal>
+pub(crate) fn pieces_of(
+    alloc: Global,
+    values: &DigitValues,
+    line: &[u8],
+) -> Result<Pieces, PackRefusal>
     ensures { let reading = says_words nothing (words_of line.now) in
         MatchResult result (λ pieces. reading ≡ Some (said_by pieces)) (λ refusal. Misses refusal reading) }
 {
     let mut pieces = Pieces::new(alloc);
     let mut left = line;
     while let Some((word, others)) = next_word(left) {
-        pieces.add(word)?;
+        pieces.add(values, word)?;
         left = others;
     }
     Ok(pieces)
@@ -64,7 +68,7 @@ impl Pieces {
 
     /// Adds what a word says of the fixed part, or of what stands behind the header.
     #[tactic(auto, unfolding(crate::specs::Words::says_word))]
-    fn add(&mut self, word: &[u8]) -> Result<(), PackRefusal>
+    fn add(&mut self, values: &DigitValues, word: &[u8]) -> Result<(), PackRefusal>
         ensures { let reading = says_word (said_by self.old) word.now in
             MatchResult result (λ _. reading ≡ Some (said_by self.new)) (λ refusal. Misses refusal reading) }
     {
@@ -78,46 +82,46 @@ impl Pieces {
             return self.add_sum(digits);
         }
         if let Some(digits) = behind(b"data=", word) {
-            return self.add_data(digits);
+            return self.add_data(values, digits);
         }
         if let Some(digits) = behind(b"rest=", word) {
-            return self.add_rest(digits);
+            return self.add_rest(values, digits);
         }
-        self.add_address(word)
+        self.add_address(values, word)
     }
 
     /// Adds an address.
     #[tactic(auto, unfolding(crate::specs::Words::says_address))]
-    fn add_address(&mut self, word: &[u8]) -> Result<(), PackRefusal>
+    fn add_address(&mut self, values: &DigitValues, word: &[u8]) -> Result<(), PackRefusal>
         ensures { let reading = says_address (said_by self.old) word.now in
             MatchResult result (λ _. reading ≡ Some (said_by self.new)) (λ refusal. Misses refusal reading) }
     {
         if let Some(digits) = behind(b"to=", word) {
-            return push_counted_in(digits, &mut self.part);
+            return push_counted_in(values, digits, &mut self.part);
         }
         if let Some(digits) = behind(b"from=", word) {
-            return push_counted_in(digits, &mut self.part);
+            return push_counted_in(values, digits, &mut self.part);
         }
         if let Some(digits) = behind(b"via=", word) {
-            return push_counted_in(digits, &mut self.part);
+            return push_counted_in(values, digits, &mut self.part);
         }
         if let Some(digits) = behind(b"title=", word) {
-            return push_counted_in(digits, &mut self.part);
+            return push_counted_in(values, digits, &mut self.part);
         }
         if let Some(digits) = behind(b"addr=", word) {
-            return self.add_listed(digits);
+            return self.add_listed(values, digits);
         }
-        self.add_field(word)
+        self.add_field(values, word)
     }
 
     /// Adds a field of the segmentation part, or an option.
     #[tactic(auto, unfolding(crate::specs::Words::says_field))]
-    fn add_field(&mut self, word: &[u8]) -> Result<(), PackRefusal>
+    fn add_field(&mut self, values: &DigitValues, word: &[u8]) -> Result<(), PackRefusal>
         ensures { let reading = says_field (said_by self.old) word.now in
             MatchResult result (λ _. reading ≡ Some (said_by self.new)) (λ refusal. Misses refusal reading) }
     {
         if let Some(digits) = behind(b"id=", word) {
-            return push_octets_in(digits, &mut self.part);
+            return push_octets_in(values, digits, &mut self.part);
         }
         if let Some(digits) = behind(b"off=", word) {
             return push_number_in(digits, &mut self.part);
@@ -126,7 +130,7 @@ impl Pieces {
             return push_number_in(digits, &mut self.part);
         }
         if let Some(text) = behind(b"opt=", word) {
-            return push_option_in(text, &mut self.part);
+            return push_option_in(values, text, &mut self.part);
         }
         Err(PackRefusal::NotShown)
     }
@@ -156,32 +160,32 @@ impl Pieces {
     }
 
     /// Adds the data.
-    fn add_data(&mut self, digits: &[u8]) -> Result<(), PackRefusal>
+    fn add_data(&mut self, values: &DigitValues, digits: &[u8]) -> Result<(), PackRefusal>
         ensures { let reading = says_data (said_by self.old) digits.now in
             MatchResult result (λ _. reading ≡ Some (said_by self.new)) (λ refusal. Misses refusal reading) }
     {
-        push_octets_in(digits, &mut self.behind)?;
+        push_octets_in(values, digits, &mut self.behind)?;
         self.size = digits.len() / 2;
         Ok(())
     }
 
     /// Adds what follows the PDU in its frame.
-    fn add_rest(&mut self, digits: &[u8]) -> Result<(), PackRefusal>
+    fn add_rest(&mut self, values: &DigitValues, digits: &[u8]) -> Result<(), PackRefusal>
         ensures { let reading = says_rest (said_by self.old) digits.now in
             MatchResult result (λ _. reading ≡ Some (said_by self.new)) (λ refusal. Misses refusal reading) }
     {
-        push_octets_in(digits, &mut self.behind)
+        push_octets_in(values, digits, &mut self.behind)
     }
 
     /// Adds an address of an end system hello.
-    fn add_listed(&mut self, digits: &[u8]) -> Result<(), PackRefusal>
+    fn add_listed(&mut self, values: &DigitValues, digits: &[u8]) -> Result<(), PackRefusal>
         ensures { let reading = says_listed (said_by self.old) digits.now in
             MatchResult result (λ _. reading ≡ Some (said_by self.new)) (λ refusal. Misses refusal reading) }
     {
         if self.addresses == MOST_ADDRESSES {
             return Err(PackRefusal::NotShown);
         }
-        push_counted_in(digits, &mut self.part)?;
+        push_counted_in(values, digits, &mut self.part)?;
         self.addresses += 1;
         Ok(())
     }

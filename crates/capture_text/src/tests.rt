@@ -1,6 +1,6 @@
 //! Lines packed and shown again, and lines of which one word was changed.
 use crate::{PackRefusal, pack_line};
-use captures::clnp_base::{NoMemory, next_line, next_word, push, words};
+use captures::clnp_base::{DigitValues, NoMemory, next_line, next_word, push, words};
 use captures::{read_capture, show_line};
 use std::alloc::Global;
 
@@ -9,10 +9,10 @@ fn goes_round(alloc: Global, digits: &[u8], line: &[u8]) -> bool {
     let mut packed = Vec::new(alloc);
     let mut frame = Vec::new(alloc);
     let mut shown = Vec::new(alloc);
-    pack_line(alloc, line, &mut packed) == Ok(true)
+    pack_line(alloc, &DigitValues::new(), line, &mut packed) == Ok(true)
         && packed.as_slice() == digits
-        && read_capture(&packed, &mut frame) == Ok(true)
-        && show_line(alloc, &frame, &mut shown).is_ok()
+        && read_capture(&DigitValues::new(), &packed, &mut frame) == Ok(true)
+        && show_line(&frame, &mut shown).is_ok()
         && shown.as_slice() == line
 }
 
@@ -133,7 +133,8 @@ fn is_no_line(alloc: Global, line: &[u8], word: &[u8], other: &[u8]) -> bool {
         return false;
     };
     let mut out = Vec::new(alloc);
-    pack_line(alloc, &changed, &mut out) == Err(PackRefusal::NotShown) && out.is_empty()
+    pack_line(alloc, &DigitValues::new(), &changed, &mut out) == Err(PackRefusal::NotShown)
+        && out.is_empty()
 }
 
 /// Whether no line that one of these changes makes is the line of a frame. A change is a word, a space, and what stands
@@ -276,7 +277,7 @@ fn answers(alloc: Global, line: &[u8], answer: Result<bool, PackRefusal>, digits
         return false;
     };
     push(digits, &mut wanted).is_ok()
-        && pack_line(alloc, line, &mut out) == answer
+        && pack_line(alloc, &DigitValues::new(), line, &mut out) == answer
         && out.as_slice() == wanted.as_slice()
 }
 
@@ -319,7 +320,7 @@ fn packs_70000_octets_and_no_more(rt: HostRuntime) {
         let rest = Vec::from_elem(rt.alloc(), b'0', zeros).expect(&rt, "memory");
         push(&rest, &mut line).expect(&rt, "memory");
         let mut out = Vec::new(rt.alloc());
-        assert!(rt; pack_line(rt.alloc(), &line, &mut out) == answer);
+        assert!(rt; pack_line(rt.alloc(), &DigitValues::new(), &line, &mut out) == answer);
         assert!(rt; out.starts_with(UNIT_DIGITS) == (answer == Ok(true)));
     }
 }

@@ -4,6 +4,7 @@ pub use Rattle.esis_pdus.proofs as EsisPdus
 pub mod CaptureFacts
 pub mod VectorFacts
 pub mod Pieces
+pub mod Keeping
 pub mod OneOther
 pub mod OneLine
 pub mod OneVerdict

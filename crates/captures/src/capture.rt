@@ -3,7 +3,8 @@ ghost use Rattle.std.specs.List.{AllPass};
 ghost use Rattle.hex.specs.Hex.{is_hex_digit, decode_of};
 ghost use Rattle.captures.specs.Captures.{capture_of, Skipped, Malformed, TooLong, Frame, Tells};
 
-use esis_pdus::clnp_base::{HexFault, is_skipped, push_unhex};
+use crate::digits::push_spelled;
+use esis_pdus::clnp_base::{DigitValues, HexFault, is_skipped};
 
 /// The most octets of a frame.
 pub const MOST_OCTETS: usize = 70_000;
@@ -23,13 +24,18 @@ pub enum LineRefusal {
 /// where the line is to be skipped.
 ///
 /// A line is skipped where it is empty or begins with `#`. Otherwise it has two hexadecimal digits,
-/// in either case, for each octet of the frame, and nothing else.
+/// in either case, for each octet of the frame, and nothing else. `values` is what digits are worth, asked once for
+/// all lines.
 ///
 /// # Errors
 ///
 /// `Syntax` where the line has another form, `Count` where the form is right and the frame has more
 /// than 70,000 octets, and `NoMemory`. Unless the answer is true, `frame` is as it was.
-pub fn read_capture(line: &[u8], frame: &mut Vec<u8>) -> Result<bool, LineRefusal>
+pub fn read_capture(
+    values: &DigitValues,
+    line: &[u8],
+    frame: &mut Vec<u8>,
+) -> Result<bool, LineRefusal>
     ensures skipped { (result ≡ Ok false) ↔ (capture_of line.now ≡ Skipped) }
     ensures syntax { (result ≡ Err LineRefusal.Syntax) ↔ (capture_of line.now ≡ Malformed) }
     ensures count { (result ≡ Err LineRefusal.Count) ↔ (capture_of line.now ≡ TooLong) }
@@ -38,11 +44,11 @@ pub fn read_capture(line: &[u8], frame: &mut Vec<u8>) -> Result<bool, LineRefusa
         × (frame.new.items ≡ frame.old.items ++ octets) }
     ensures same { result ≢ Ok true → frame.new.items ≡ frame.old.items }
 {
-    read_told(line, frame)
+    read_told(values, line, frame)
 }
 
 /// Reads a line of a capture in one pass; the answer tells what the line is.
-fn read_told(line: &[u8], frame: &mut Vec<u8>) -> Result<bool, LineRefusal>
+fn read_told(values: &DigitValues, line: &[u8], frame: &mut Vec<u8>) -> Result<bool, LineRefusal>
     ensures told { Tells result (capture_of line.now) }
     ensures read { result ≡ Ok true → (octets : List ℕ) × (capture_of line.now ≡ Frame octets)
         × (frame.new.items ≡ frame.old.items ++ octets) }
@@ -54,7 +60,7 @@ fn read_told(line: &[u8], frame: &mut Vec<u8>) -> Result<bool, LineRefusal>
     if line.len() / 2 > MOST_OCTETS {
         return Err(refusal_of(line, LineRefusal::Count));
     }
-    match push_unhex(line, frame) {
+    match push_spelled(values, line, frame) {
         Ok(()) => Ok(true),
         Err(HexFault::OddLength) => Err(LineRefusal::Syntax),
         Err(HexFault::BadDigit) => Err(LineRefusal::Syntax),

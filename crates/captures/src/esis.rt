@@ -1,9 +1,10 @@
 //! ES-IS frames as lines of text.
 
-ghost use Rattle.std.specs.Prelude.{◌≡◌, ◌++◌, OnOk, codes, ℕ, List};
+ghost use Rattle.std.specs.Prelude.{◌≡◌, ◌++◌, OnErr, OnOk, codes, option_map, ℕ, List};
 ghost use Rattle.esis_pdus.specs.Spelling.{title_octets};
 ghost use Rattle.esis_pdus.specs.View.{pdu_value};
 ghost use Rattle.esis_pdus.specs.Nsap.Text.{hex_text};
+ghost use Rattle.captures.specs.Kept.{Keeps};
 ghost use Rattle.captures.specs.EsisShown.{ShowsOther, addresses_text, body_text, esis_refusal_text, esis_text, esis_word};
 
 use crate::words::{push_octets, push_options, push_pair};
@@ -13,7 +14,8 @@ use esis_pdus::{AddressList, EsisBody, EsisPdu, EsisRefusal, decode};
 
 /// Appends the text of a frame that doesn't begin with 0x81.
 pub(crate) fn push_other(frame: &[u8], line: &mut Vec<u8>) -> Result<(), NoMemory>
-    ensures { OnOk result ((text : List ℕ) × ShowsOther frame.now text × (line.new.items ≡ line.old.items ++ text)) }
+    ensures written { OnOk result ((text : List ℕ) × ShowsOther frame.now text × (line.new.items ≡ line.old.items ++ text)) }
+    ensures kept { OnErr result (Keeps line.old.items line.new.items) }
 {
     match decode(frame) {
         Ok(pdu) => push_esis(pdu, line),
@@ -23,7 +25,8 @@ pub(crate) fn push_other(frame: &[u8], line: &mut Vec<u8>) -> Result<(), NoMemor
 
 /// Appends the text of a frame that is no ES-IS PDU.
 fn push_refusal(refusal: EsisRefusal, line: &mut Vec<u8>) -> Result<(), NoMemory>
-    ensures { OnOk result (line.new.items ≡ line.old.items ++ esis_refusal_text refusal) }
+    ensures written { OnOk result (line.new.items ≡ line.old.items ++ esis_refusal_text refusal) }
+    ensures kept { OnErr result (Keeps line.old.items line.new.items) }
 {
     match refusal {
         EsisRefusal::NotEsis => push(b"alien", line),
@@ -36,8 +39,9 @@ fn push_refusal(refusal: EsisRefusal, line: &mut Vec<u8>) -> Result<(), NoMemory
 
 /// Appends the text of an ES-IS PDU and of what follows it in its frame.
 fn push_esis(pdu: EsisPdu<'_>, line: &mut Vec<u8>) -> Result<(), NoMemory>
-    ensures { OnOk result (line.new.items ≡ line.old.items
+    ensures written { OnOk result (line.new.items ≡ line.old.items
         ++ esis_text (pdu_value pdu.entry) pdu.entry.sum pdu.entry.rest.now) }
+    ensures kept { OnErr result (Keeps line.old.items line.new.items) }
 {
     push(kind_text(&pdu.body), line)?;
     push_number(b" hold=", u64::from(pdu.hold), line)?;
@@ -61,7 +65,8 @@ fn kind_text(body: &EsisBody<'_>) -> &'static [u8]
 /// Appends the addresses of an ES-IS PDU.
 #[tactic(auto, unfolding(crate::specs::EsisShown::body_text))]
 fn push_body(body: EsisBody<'_>, line: &mut Vec<u8>) -> Result<(), NoMemory>
-    ensures { OnOk result (line.new.items ≡ line.old.items ++ body_text body.entry) }
+    ensures written { OnOk result (line.new.items ≡ line.old.items ++ body_text body.entry) }
+    ensures kept { OnErr result (Keeps line.old.items line.new.items) }
 {
     match body {
         EsisBody::Esh { addresses } => push_addresses(addresses, line),
@@ -76,7 +81,8 @@ fn push_body(body: EsisBody<'_>, line: &mut Vec<u8>) -> Result<(), NoMemory>
 
 /// Appends the title of a redirect, empty where there is none.
 fn push_title(title: Option<Address>, line: &mut Vec<u8>) -> Result<(), NoMemory>
-    ensures { OnOk result (line.new.items ≡ line.old.items ++ (codes " title=" ++ hex_text (title_octets title))) }
+    ensures written { OnOk result (line.new.items ≡ line.old.items ++ (codes " title=" ++ hex_text (title_octets title))) }
+    ensures kept { OnErr result (Keeps line.old.items line.new.items) }
 {
     match title {
         Some(title) => push_octets(b" title=", title.as_bytes(), line),
@@ -87,7 +93,8 @@ fn push_title(title: Option<Address>, line: &mut Vec<u8>) -> Result<(), NoMemory
 /// Appends the addresses of an end system hello, in order.
 #[tactic(auto, unfolding(crate::specs::EsisShown::addresses_text))]
 fn push_addresses(addresses: AddressList<'_>, line: &mut Vec<u8>) -> Result<(), NoMemory>
-    ensures { OnOk result (line.new.items ≡ line.old.items ++ addresses_text addresses.entry) }
+    ensures written { OnOk result (line.new.items ≡ line.old.items ++ addresses_text addresses.entry) }
+    ensures kept { OnErr result (Keeps line.old.items line.new.items) }
 {
     for address in addresses {
         push_octets(b" addr=", address.as_bytes(), line)?;

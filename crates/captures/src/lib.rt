@@ -2,6 +2,7 @@
 #![tactic(auto)]
 
 mod capture;
+mod digits;
 mod esis;
 pub mod laws;
 mod line;
@@ -9,6 +10,7 @@ mod vector;
 mod words;
 
 pub use capture::{LineRefusal, MOST_OCTETS, read_capture};
+pub use digits::push_spelled;
 pub use esis_pdus;
 pub use esis_pdus::clnp_base;
 pub use esis_pdus::clnp_base::is_skipped;

@@ -2,16 +2,13 @@
 
 ghost use Rattle.std.specs.Prelude.{◌≡◌, ◌++◌, OnOk, OnErr, option_map, ℕ, List};
 ghost use Rattle.esis_pdus.specs.PduHeader.View.{pdu_value, part_value};
+ghost use Rattle.captures.specs.Kept.{Keeps};
 ghost use Rattle.captures.specs.Shown.{Shows, refusal_text, front_text, kind_and_flags_text, part_text, segmentation_text, value_text};
 
 use crate::esis::push_other;
 use crate::words::{flags_text, push_octets, push_options, push_pair, report_text};
 use esis_pdus::clnp_base::{NoMemory, push, push_number};
 use esis_pdus::pdu_header::{Broken, Pdu, Refusal, SegPart, decode};
-use std::alloc::Global;
-
-/// About how many octets the words of a shown line take, beside the digits of its frame.
-const WORDS: usize = 128;
 
 /// Appends the line that shows a frame, without a `\n` (ISO 8473, sections 7 and 7.9.5).
 ///
@@ -29,19 +26,22 @@ const WORDS: usize = 128;
 /// # Errors
 ///
 /// `NoMemory`; `out` is then as it was.
-pub fn show_line(alloc: Global, frame: &[u8], out: &mut Vec<u8>) -> Result<(), NoMemory>
+pub fn show_line(frame: &[u8], out: &mut Vec<u8>) -> Result<(), NoMemory>
     ensures shown { OnOk result ((line : List ℕ) × Shows frame.now line × (out.new.items ≡ out.old.items ++ line)) }
     ensures same { OnErr result (out.new.items ≡ out.old.items) }
 {
-    let room = frame.len().saturating_mul(2).saturating_add(WORDS);
-    let mut line = Vec::with_capacity(alloc, room)?;
-    push_shown(frame, &mut line)?;
-    push(&line, out)
+    let start = out.len();
+    let shown = push_shown(frame, out);
+    if shown.is_err() {
+        out.truncate(start);
+    }
+    shown
 }
 
 /// Appends the text of a frame.
 fn push_shown(frame: &[u8], line: &mut Vec<u8>) -> Result<(), NoMemory>
-    ensures { OnOk result ((text : List ℕ) × Shows frame.now text × (line.new.items ≡ line.old.items ++ text)) }
+    ensures written { OnOk result ((text : List ℕ) × Shows frame.now text × (line.new.items ≡ line.old.items ++ text)) }
+    ensures kept { OnErr result (Keeps line.old.items line.new.items) }
 {
     match decode(frame) {
         Ok(pdu) => push_pdu(&pdu, line),
@@ -52,8 +52,9 @@ fn push_shown(frame: &[u8], line: &mut Vec<u8>) -> Result<(), NoMemory>
 
 /// Appends the text of a refused frame.
 fn push_broken(broken: Broken, line: &mut Vec<u8>) -> Result<(), NoMemory>
-    ensures { OnOk result (line.new.items ≡ line.old.items
+    ensures written { OnOk result (line.new.items ≡ line.old.items
         ++ refusal_text broken.rule broken.reason broken.place broken.reportable) }
+    ensures kept { OnErr result (Keeps line.old.items line.new.items) }
 {
     push_number(b"refused G", u64::from(broken.rule), line)?;
     push_octets(b" ", &[broken.reason], line)?;
@@ -64,8 +65,9 @@ fn push_broken(broken: Broken, line: &mut Vec<u8>) -> Result<(), NoMemory>
 
 /// Appends the text of a PDU and of what follows it in its frame.
 fn push_pdu(pdu: &Pdu<'_>, line: &mut Vec<u8>) -> Result<(), NoMemory>
-    ensures { OnOk result (line.new.items ≡ line.old.items
+    ensures written { OnOk result (line.new.items ≡ line.old.items
         ++ value_text (pdu_value pdu.now) pdu.now.sum pdu.now.rest.now) }
+    ensures kept { OnErr result (Keeps line.old.items line.new.items) }
 {
     push_front(pdu, line)?;
     push_segmentation(pdu.seg, line)?;
@@ -77,7 +79,8 @@ fn push_pdu(pdu: &Pdu<'_>, line: &mut Vec<u8>) -> Result<(), NoMemory>
 /// Appends what the text of a PDU begins with, up to its addresses.
 #[tactic(auto, unfolding(crate::specs::Shown::front_text))]
 fn push_front(pdu: &Pdu<'_>, line: &mut Vec<u8>) -> Result<(), NoMemory>
-    ensures { OnOk result (line.new.items ≡ line.old.items ++ front_text (pdu_value pdu.now) pdu.now.sum) }
+    ensures written { OnOk result (line.new.items ≡ line.old.items ++ front_text (pdu_value pdu.now) pdu.now.sum) }
+    ensures kept { OnErr result (Keeps line.old.items line.new.items) }
 {
     push_kind(pdu, line)?;
     push_number(b" life=", u64::from(pdu.life), line)?;
@@ -88,7 +91,8 @@ fn push_front(pdu: &Pdu<'_>, line: &mut Vec<u8>) -> Result<(), NoMemory>
 
 /// Appends the kind and the flags of a PDU.
 fn push_kind(pdu: &Pdu<'_>, line: &mut Vec<u8>) -> Result<(), NoMemory>
-    ensures { OnOk result (line.new.items ≡ line.old.items ++ kind_and_flags_text (pdu_value pdu.now)) }
+    ensures written { OnOk result (line.new.items ≡ line.old.items ++ kind_and_flags_text (pdu_value pdu.now)) }
+    ensures kept { OnErr result (Keeps line.old.items line.new.items) }
 {
     push(b"clnp ", line)?;
     push(pdu.kind.word(), line)?;
@@ -98,7 +102,8 @@ fn push_kind(pdu: &Pdu<'_>, line: &mut Vec<u8>) -> Result<(), NoMemory>
 
 /// Appends the segmentation part, if there is one.
 fn push_segmentation(part: Option<SegPart>, line: &mut Vec<u8>) -> Result<(), NoMemory>
-    ensures { OnOk result (line.new.items ≡ line.old.items ++ segmentation_text (option_map part_value part)) }
+    ensures written { OnOk result (line.new.items ≡ line.old.items ++ segmentation_text (option_map part_value part)) }
+    ensures kept { OnErr result (Keeps line.old.items line.new.items) }
 {
     match part {
         None => Ok(()),
@@ -108,7 +113,8 @@ fn push_segmentation(part: Option<SegPart>, line: &mut Vec<u8>) -> Result<(), No
 
 /// Appends a segmentation part.
 fn push_part(part: SegPart, line: &mut Vec<u8>) -> Result<(), NoMemory>
-    ensures { OnOk result (line.new.items ≡ line.old.items ++ part_text (part_value part)) }
+    ensures written { OnOk result (line.new.items ≡ line.old.items ++ part_text (part_value part)) }
+    ensures kept { OnErr result (Keeps line.old.items line.new.items) }
 {
     push_pair(b" id=", part.id, line)?;
     push_number(b" off=", u64::from(part.offset), line)?;

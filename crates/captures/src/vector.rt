@@ -3,11 +3,12 @@
 ghost use Rattle.std.specs.Prelude.{◌≡◌, ◌≢◌, ◌↔◌, ◌++◌, ℕ, List, true, false, Option, Some, None, take, drop, length, ◌≤◌, MatchOption, IfOk, OnOk, OnErr};
 ghost use Rattle.std.specs.Fmt.{decimal};
 ghost use Rattle.captures.specs.Captures.{is_skipped};
+ghost use Rattle.captures.specs.Kept.{Keeps};
 ghost use Rattle.captures.specs.Vectors.{vector_of, Skipped, Malformed, TooLong, Expects, before_space, from_space, behind_arrow, verdict_of, verdict_text, Judges, JudgesLine};
 
 use crate::capture::{LineRefusal, read_capture};
 use crate::line::show_line;
-use esis_pdus::clnp_base::{NoMemory, is_skipped, push, push_decimal};
+use esis_pdus::clnp_base::{DigitValues, NoMemory, is_skipped, push, push_decimal};
 use std::alloc::Global;
 
 /// The verdict on a line of a file of vectors.
@@ -34,6 +35,7 @@ pub enum Verdict {
 /// than 70,000 octets, and `NoMemory`. Unless the answer is `Pass` or `Fail`, `out` is as it was.
 pub fn check_line(
     alloc: Global,
+    values: &DigitValues,
     line: &[u8],
     number: u32,
     out: &mut Vec<u8>,
@@ -50,7 +52,7 @@ pub fn check_line(
         return Ok(Verdict::Skip);
     }
     let mut frame = Vec::new(alloc);
-    match read_vector(line, &mut frame) {
+    match read_vector(values, line, &mut frame) {
         Ok(expected) => judge(alloc, &frame, expected, number, out),
         Err(refusal) => Err(refusal),
     }
@@ -58,7 +60,11 @@ pub fn check_line(
 
 /// Reads a vector: appends the octets of its frame, and answers the line that is expected to show
 /// them.
-fn read_vector<'a>(line: &'a [u8], frame: &mut Vec<u8>) -> Result<&'a [u8], LineRefusal>
+fn read_vector<'a>(
+    values: &DigitValues,
+    line: &'a [u8],
+    frame: &mut Vec<u8>,
+) -> Result<&'a [u8], LineRefusal>
     requires { is_skipped line.now ≡ false }
     ensures skipped { vector_of line.now ≢ Skipped }
     ensures syntax { (result ≡ Err LineRefusal.Syntax) ↔ (vector_of line.now ≡ Malformed) }
@@ -69,7 +75,7 @@ fn read_vector<'a>(line: &'a [u8], frame: &mut Vec<u8>) -> Result<&'a [u8], Line
     let Some((digits, expected)) = cut_at_arrow(line) else {
         return Err(LineRefusal::Syntax);
     };
-    match read_capture(digits, frame) {
+    match read_capture(values, digits, frame) {
         Ok(true) => Ok(expected),
         Ok(false) => Err(LineRefusal::Syntax),
         Err(refusal) => Err(refusal),
@@ -117,12 +123,14 @@ fn judge(
     ensures refused { (refusal : LineRefusal) → result ≡ Err refusal → refusal ≡ LineRefusal.NoMemory }
     ensures same { OnErr result (out.new.items ≡ out.old.items) }
 {
-    let mut shown = Vec::new(alloc);
-    if show_line(alloc, frame, &mut shown).is_err() {
+    let Ok(mut shown) = Vec::with_capacity(alloc, expected.len()) else {
+        return Err(LineRefusal::NoMemory);
+    };
+    if show_line(frame, &mut shown).is_err() {
         return Err(LineRefusal::NoMemory);
     }
     let verdict = verdict_on(&shown, expected);
-    match push_verdict(alloc, number, verdict, &shown, out) {
+    match push_verdict(number, verdict, &shown, out) {
         Ok(()) => Ok(verdict),
         Err(_) => Err(LineRefusal::NoMemory),
     }
@@ -141,7 +149,6 @@ fn verdict_on(shown: &[u8], expected: &[u8]) -> Verdict
 
 /// Appends a verdict as text.
 fn push_verdict(
-    alloc: Global,
     number: u32,
     verdict: Verdict,
     shown: &[u8],
@@ -150,9 +157,12 @@ fn push_verdict(
     ensures written { OnOk result (out.new.items ≡ out.old.items ++ verdict_text number verdict shown.now) }
     ensures same { OnErr result (out.new.items ≡ out.old.items) }
 {
-    let mut text = Vec::new(alloc);
-    push_words(number, verdict, shown, &mut text)?;
-    push(&text, out)
+    let start = out.len();
+    let written = push_words(number, verdict, shown, out);
+    if written.is_err() {
+        out.truncate(start);
+    }
+    written
 }
 
 /// Appends the words of a verdict.
@@ -162,7 +172,8 @@ fn push_words(
     shown: &[u8],
     text: &mut Vec<u8>,
 ) -> Result<(), NoMemory>
-    ensures { OnOk result (text.new.items ≡ text.old.items ++ verdict_text number verdict shown.now) }
+    ensures written { OnOk result (text.new.items ≡ text.old.items ++ verdict_text number verdict shown.now) }
+    ensures kept { OnErr result (Keeps text.old.items text.new.items) }
 {
     match verdict {
         Verdict::Skip => Ok(()),
@@ -176,7 +187,8 @@ fn push_words(
 
 /// Appends the number of a line, and a label.
 fn push_numbered(number: u32, label: &[u8], text: &mut Vec<u8>) -> Result<(), NoMemory>
-    ensures { OnOk result (text.new.items ≡ text.old.items ++ (decimal number ++ label.now)) }
+    ensures written { OnOk result (text.new.items ≡ text.old.items ++ (decimal number ++ label.now)) }
+    ensures kept { OnErr result (Keeps text.old.items text.new.items) }
 {
     push_decimal(u64::from(number), text)?;
     push(label, text)

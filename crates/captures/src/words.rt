@@ -1,17 +1,19 @@
 //! The words and fields of a shown line.
 
-ghost use Rattle.std.specs.Prelude.{◌≡◌, ◌++◌, OnOk};
+ghost use Rattle.std.specs.Prelude.{◌≡◌, ◌++◌, OnErr, OnOk};
 ghost use Rattle.esis_pdus.specs.Nsap.Text.{hex_text};
-ghost use Rattle.esis_pdus.specs.ClnpOptions.Parameter.{parameters};
+ghost use Rattle.captures.specs.Kept.{Keeps};
 ghost use Rattle.captures.specs.Shown.{flags_word, letters_of, report_word};
 ghost use Rattle.captures.specs.Words.{pair_word, option_text, options_text};
+ghost use Rattle.esis_pdus.specs.ClnpOptions.Parameter.{parameters};
 
 use esis_pdus::clnp_base::{NoMemory, push, push_hex};
 use esis_pdus::clnp_options::first_option;
 
 /// Appends a label, and octets as hexadecimal digits in lower case.
 pub(crate) fn push_octets(label: &[u8], octets: &[u8], line: &mut Vec<u8>) -> Result<(), NoMemory>
-    ensures { OnOk result (line.new.items ≡ line.old.items ++ (label.now ++ hex_text octets.now)) }
+    ensures written { OnOk result (line.new.items ≡ line.old.items ++ (label.now ++ hex_text octets.now)) }
+    ensures kept { OnErr result (Keeps line.old.items line.new.items) }
 {
     push(label, line)?;
     push_hex(octets, line)
@@ -19,7 +21,8 @@ pub(crate) fn push_octets(label: &[u8], octets: &[u8], line: &mut Vec<u8>) -> Re
 
 /// Appends a label, and a number of two octets in four hexadecimal digits.
 pub(crate) fn push_pair(label: &[u8], number: u16, line: &mut Vec<u8>) -> Result<(), NoMemory>
-    ensures { OnOk result (line.new.items ≡ line.old.items ++ (label.now ++ pair_word number)) }
+    ensures written { OnOk result (line.new.items ≡ line.old.items ++ (label.now ++ pair_word number)) }
+    ensures kept { OnErr result (Keeps line.old.items line.new.items) }
 {
     push_octets(label, &number.to_be_bytes(), line)
 }
@@ -51,7 +54,8 @@ pub(crate) fn flags_text(segmented: bool, more: bool, report: bool) -> &'static 
 /// Appends the options that stand in a part of a header, in order.
 #[tactic(auto, unfolding(crate::specs::Words::options_text))]
 pub(crate) fn push_options(part: &[u8], line: &mut Vec<u8>) -> Result<(), NoMemory>
-    ensures { OnOk result (line.new.items ≡ line.old.items ++ options_text (parameters part.now)) }
+    ensures written { OnOk result (line.new.items ≡ line.old.items ++ options_text (parameters part.now)) }
+    ensures kept { OnErr result (Keeps line.old.items line.new.items) }
 {
     let mut left = part;
     while let Some((code, value, others)) = first_option(left) {
@@ -63,7 +67,8 @@ pub(crate) fn push_options(part: &[u8], line: &mut Vec<u8>) -> Result<(), NoMemo
 
 /// Appends an option: its code and its value.
 fn push_option(code: u8, value: &[u8], line: &mut Vec<u8>) -> Result<(), NoMemory>
-    ensures { OnOk result (line.new.items ≡ line.old.items ++ option_text (record { code = code; value = value.now })) }
+    ensures written { OnOk result (line.new.items ≡ line.old.items ++ option_text (record { code = code; value = value.now })) }
+    ensures kept { OnErr result (Keeps line.old.items line.new.items) }
 {
     push_octets(b" opt=", &[code], line)?;
     push_octets(b":", value, line)

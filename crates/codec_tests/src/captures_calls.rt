@@ -1,4 +1,5 @@
-use captures::{LineRefusal, Verdict, check_line, read_capture, show_line};
+use captures::clnp_base::DigitValues;
+use captures::{LineRefusal, Verdict, check_line, push_spelled, read_capture, show_line};
 use std::alloc::{AllocError, Global};
 
 /// A PDU in hexadecimal digits, and the line that shows it.
@@ -10,10 +11,17 @@ const SHOWN: &[u8] =
 #[test]
 fn shows_a_frame_behind_what_stands_there(rt: HostRuntime) {
     let mut frame = Vec::new(rt.alloc());
-    assert!(rt; read_capture(FRAME, &mut frame) == Ok(true));
+    assert!(rt; read_capture(&DigitValues::new(), FRAME, &mut frame) == Ok(true));
     let mut out = Vec::from_slice(rt.alloc(), b"before\n").expect(&rt, "memory");
-    assert!(rt; show_line(rt.alloc(), &frame, &mut out).is_ok());
+    assert!(rt; show_line(&frame, &mut out).is_ok());
     assert!(rt; out.as_slice() == SHOWN);
+}
+
+#[test]
+fn reads_digits_behind_what_stands_there(rt: HostRuntime) {
+    let mut out = Vec::from_slice(rt.alloc(), b"before ").expect(&rt, "memory");
+    assert!(rt; push_spelled(&DigitValues::new(), b"009Fa0fF", &mut out) == Ok(()));
+    assert!(rt; out.as_slice() == b"before \x00\x9f\xa0\xff".as_slice());
 }
 
 /// The digits of 70,000 octets, and this behind them.
@@ -25,6 +33,7 @@ fn digits_and(alloc: Global, more: &[u8]) -> Result<Vec<u8>, AllocError> {
 
 #[test]
 fn reads_70000_octets_and_no_more(rt: HostRuntime) {
+    let values = DigitValues::new();
     let mut frame = Vec::new(rt.alloc());
     let rows = [
         (b"".as_slice(), Ok(true)),
@@ -34,13 +43,14 @@ fn reads_70000_octets_and_no_more(rt: HostRuntime) {
     ];
     for (more, answer) in rows {
         let line = digits_and(rt.alloc(), more).expect(&rt, "memory");
-        assert!(rt; read_capture(&line, &mut frame) == answer);
+        assert!(rt; read_capture(&values, &line, &mut frame) == answer);
         assert!(rt; frame.len() == 70_000);
     }
 }
 
 #[test]
 fn judges_70000_octets_and_no_more(rt: HostRuntime) {
+    let values = DigitValues::new();
     let mut out = Vec::new(rt.alloc());
     let rows = [
         (b" => alien".as_slice(), Ok(Verdict::Pass)),
@@ -48,7 +58,7 @@ fn judges_70000_octets_and_no_more(rt: HostRuntime) {
     ];
     for (more, answer) in rows {
         let line = digits_and(rt.alloc(), more).expect(&rt, "memory");
-        assert!(rt; check_line(rt.alloc(), &line, 3, &mut out) == answer);
+        assert!(rt; check_line(rt.alloc(), &values, &line, 3, &mut out) == answer);
         assert!(rt; out.as_slice() == b"3 pass".as_slice());
     }
 }

@@ -1,7 +1,10 @@
 //! The routes of a system.
-ghost use Rattle.std.specs.Prelude.{◌≡◌, ℕ, List, [], Err, IfOk, OnErr, OnOk};
+ghost use Rattle.std.specs.Prelude.{◌≡◌, ◌≤◌, ℕ, List, [], Err, IfOk, OnErr, OnOk, length, take};
+ghost use Rattle.std.specs.BTreeMap.{get};
+ghost use Rattle.std.specs.Cmp.Lexicographic.{slice_cmp};
 ghost use Rattle.std.specs.List.{find, list_any, position_from};
 ghost use Rattle.std.specs.Option.{option_copied};
+ghost use Rattle.std.specs.Ordering.{nat_cmp};
 ghost use Rattle.forwarding.specs.declared.route.Route.{Route};
 ghost use Rattle.forwarding.specs.declared.route.RouteRefusal.TheVariants.{Twice};
 ghost use Rattle.forwarding.specs.Distinct.{IsTwice, has_prefix};
@@ -112,13 +115,28 @@ impl Routes {
     {
         let digits = Prefix::of_address(address);
         for len in (0..digits.len() + 1).rev() {
-            let route = self.by_length[len].get(&digits.first(len));
+            let route = route_in(&self.by_length[len], &digits, len);
             if route.is_some() {
                 return route;
             }
         }
         None
     }
+}
+
+/// The route of the first so many digits, among those of their length. A length without routes isn't searched.
+fn route_in<'a>(
+    routes: &'a BTreeMap<Prefix, Route>,
+    digits: &Prefix,
+    len: usize,
+) -> Option<&'a Route>
+    requires { len ≤ length digits.now }
+    ensures { option_copied result ≡ get (slice_cmp nat_cmp) routes.now (take len digits.now) }
+{
+    if routes.is_empty() {
+        return None;
+    }
+    routes.get(&digits.first(len))
 }
 
 /// The index of the first route of a prefix.

@@ -13,11 +13,9 @@ use command_base::clnp_base::{NoMemory, push, push_decimal, push_hex};
 use command_base::push_number;
 use pcap_frames::nsap::Snpa;
 use pcap_frames::{Record, Seen, see};
-use std::alloc::Global;
 
 /// Appends the line of the record with this number, from 1, and its end.
 pub(crate) fn push_record(
-    alloc: Global,
     form: Form,
     number: u32,
     captured: &Record<'_>,
@@ -28,19 +26,14 @@ pub(crate) fn push_record(
 {
     let seen = see(captured.octets);
     match form {
-        Form::Shown => push_shown(alloc, number, &seen, out)?,
+        Form::Shown => push_shown(number, &seen, out)?,
         Form::Remade => push_remade(number, captured.seconds, &seen, out)?,
     }
     push(b"\n", out)
 }
 
 /// Appends the line of `pcap-show`: `N other`, `N cut`, or `N DST SRC` and the line that shows the PDU.
-fn push_shown(
-    alloc: Global,
-    number: u32,
-    seen: &Seen<'_>,
-    out: &mut Vec<u8>,
-) -> Result<(), NoMemory>
+fn push_shown(number: u32, seen: &Seen<'_>, out: &mut Vec<u8>) -> Result<(), NoMemory>
     ensures { OnOk result ((line : List ℕ) × ShowsSeen number (seen_value seen.now) line
         × (out.new.items ≡ out.old.items ++ line)) }
 {
@@ -50,7 +43,7 @@ fn push_shown(
         Seen::Cut => push(b" cut", out),
         Seen::Osi { to, from, pdu } => {
             push_stations(&to, &from, out)?;
-            show_line(alloc, pdu, out)
+            show_line(pdu, out)
         }
     }
 }

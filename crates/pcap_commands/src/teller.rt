@@ -49,14 +49,9 @@ impl Teller {
     ///
     /// # Errors
     ///
-    /// The answer at which telling stops: a fault of the file, whose records before it are written, a fault of the
-    /// sink, or want of memory.
-    pub(crate) fn take<K: Sink>(
-        &mut self,
-        alloc: Global,
-        piece: &[u8],
-        sink: &mut K,
-    ) -> Result<(), Status>
+    /// The answer at which telling stops: a fault of the file, whose records before it are written, a fault of the sink, or
+    /// want of memory.
+    pub(crate) fn take<K: Sink>(&mut self, piece: &[u8], sink: &mut K) -> Result<(), Status>
         requires few { self.old.size + length piece.now ≤ most_octets }
         requires counted { self.old.number ≤ self.old.size }
         ensures later { K.faults sink.old ≤ K.faults sink.new }
@@ -71,7 +66,7 @@ impl Teller {
     {
         let mut left = piece;
         while !left.is_empty() {
-            match self.take_some(alloc, left, sink) {
+            match self.take_some(left, sink) {
                 Ok(count) => left = &left[count..],
                 Err(answer) => return Err(answer),
             }
@@ -79,14 +74,8 @@ impl Teller {
         Ok(())
     }
 
-    /// Takes the first octets of a piece that isn't empty, at most up to the end of the next record, and tells that
-    /// record.
-    fn take_some<K: Sink>(
-        &mut self,
-        alloc: Global,
-        piece: &[u8],
-        sink: &mut K,
-    ) -> Result<usize, Status>
+    /// Takes the first octets of a piece that isn't empty, at most up to the end of the next record, and tells that record.
+    fn take_some<K: Sink>(&mut self, piece: &[u8], sink: &mut K) -> Result<usize, Status>
         requires some { 0 < length piece.now }
         requires few { self.old.size + length piece.now ≤ most_octets }
         requires counted { self.old.number ≤ self.old.size }
@@ -105,7 +94,7 @@ impl Teller {
             Ok(took) => {
                 self.size += took.octets;
                 if took.whole {
-                    match self.tell_current(alloc, sink) {
+                    match self.tell_current(sink) {
                         Ok(()) => Ok(took.octets),
                         Err(answer) => Err(answer),
                     }
@@ -121,7 +110,7 @@ impl Teller {
     }
 
     /// Tells the record that came whole, and writes the block where it is full.
-    fn tell_current<K: Sink>(&mut self, alloc: Global, sink: &mut K) -> Result<(), Status>
+    fn tell_current<K: Sink>(&mut self, sink: &mut K) -> Result<(), Status>
         requires whole { IsSome (current_of self.old.reader) }
         requires few { self.old.number ≤ most_octets }
         ensures later { K.faults sink.old ≤ K.faults sink.new }
@@ -136,7 +125,7 @@ impl Teller {
     {
         self.number += 1;
         let record = self.reader.current();
-        let Ok(()) = push_record(alloc, self.form, self.number, &record, &mut self.block) else {
+        let Ok(()) = push_record(self.form, self.number, &record, &mut self.block) else {
             return Err(Status::NoMemory);
         };
         match write_full_block(&mut self.block, sink) {

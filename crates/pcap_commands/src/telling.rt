@@ -65,7 +65,7 @@ fn tell_file<S: Source, K: Sink>(alloc: Global, form: Form, source: &mut S, sink
     let chunk = chunk.as_mut_slice();
     loop {
         let most = (MOST - teller.size).min(CHUNK - 1) + 1;
-        if let Some(answer) = take_next(alloc, source, &mut chunk[..most], &mut teller, sink) {
+        if let Some(answer) = take_next(source, &mut chunk[..most], &mut teller, sink) {
             return answer;
         }
     }
@@ -74,7 +74,6 @@ fn tell_file<S: Source, K: Sink>(alloc: Global, form: Form, source: &mut S, sink
 /// Reads once into `chunk`, and has the teller take what came. Gives the answer where there is one. At most one octet
 /// more comes than a file may have.
 fn take_next<S: Source, K: Sink>(
-    alloc: Global,
     source: &mut S,
     chunk: &mut [u8],
     teller: &mut Teller,
@@ -97,7 +96,7 @@ fn take_next<S: Source, K: Sink>(
     // Its clause: frames behind a stop have their lines too.
     every_frame_is_shown();
     match source.read(chunk) {
-        Ok(came) => take_piece(alloc, &chunk[..came], teller, sink),
+        Ok(came) => take_piece(&chunk[..came], teller, sink),
         Err(_) => Some(teller.finish(Status::ReadFault, sink)),
     }
 }
@@ -110,14 +109,9 @@ fn every_frame_is_shown()
     laws::one_line();
 }
 
-/// Has the teller take a piece that came, of which at most one octet is beyond what a file may have; no octets came at
-/// the end of the file alone. Gives the answer where there is one.
-fn take_piece<K: Sink>(
-    alloc: Global,
-    piece: &[u8],
-    teller: &mut Teller,
-    sink: &mut K,
-) -> Option<Status>
+/// Has the teller take a piece that came, of which at most one octet is beyond what a file may have; no octets came at the
+/// end of the file alone. Gives the answer where there is one.
+fn take_piece<K: Sink>(piece: &[u8], teller: &mut Teller, sink: &mut K) -> Option<Status>
     requires few { teller.old.size + length piece.now ≤ most_octets + 1 }
     requires size { teller.old.size ≤ most_octets }
     requires counted { teller.old.number ≤ teller.old.size }
@@ -141,7 +135,7 @@ fn take_piece<K: Sink>(
     }
     let room = MOST - teller.size;
     let within = piece.len().min(room);
-    match teller.take(alloc, &piece[..within], sink) {
+    match teller.take(&piece[..within], sink) {
         Ok(()) => {
             if piece.len() <= room {
                 return None;

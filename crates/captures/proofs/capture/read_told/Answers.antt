@@ -19,11 +19,11 @@ returns-in-Ok-clause-read c = λ answered. (
 )
 
 pub returns-in-Err-OddLength-clause-told : goal.returns-in-Err-OddLength-clause-told
-returns-in-Err-OddLength-clause-told c = told_odd c.args.line.now (cc) (c.push_unhex.ensures.odd.0 (cc))
+returns-in-Err-OddLength-clause-told c = told_odd c.args.line.now (cc) (c.push_spelled.ensures.odd.0 (cc))
 
 pub returns-in-Err-BadDigit-clause-told : goal.returns-in-Err-BadDigit-clause-told
 returns-in-Err-BadDigit-clause-told c =
-    let bad = c.push_unhex.ensures.bad (cc) in told_bad c.args.line.now bad.0 bad.1 (cc) bad.2
+    let bad = c.push_spelled.ensures.bad (cc) in told_bad c.args.line.now bad.0 bad.1 (cc) bad.2
 
 pub returns-in-Err-NoMemory-clause-told : goal.returns-in-Err-NoMemory-clause-told
 returns-in-Err-NoMemory-clause-told c = told_unread c.args.line.now c.refusal_of-in-Err-NoMemory.result (cc) (omega arith) c.refusal_of-in-Err-NoMemory.ensures

@@ -1,4 +1,4 @@
-use Rattle.std.proofs.Common.{◌<◌, ◌-◌, ◌∙◌, ℕ, ap, arith, length, sym}
+use Rattle.std.proofs.Common.{◌<◌, ◌-◌, ◌∙◌, ℕ, ap, arith, length, refl, sym, take}
 use Rattle.std.proofs.lemmas.Option.{slice_get-get_or}
 use Rattle.forwarding.proofs.Choosing.{longest_nowhere}
 use Rattle.forwarding.proofs.Entries.{found_here, none_here}
@@ -9,7 +9,7 @@ returns-then-is_some c = λ list stands.
     let n : ℕ = c.loop-len.len - 1 in
     let within : n < length c.args.self.now.by_length = omega arith in
     let at = slice_get-get_or c.args.self.now.by_length n c.index-self-len.result within in
-    found_here c.args.self.now list c.args.address.now c.of_address-digits.result c.first.result n _ c.get-route.result stands c.of_address-digits.ensures.digits c.first.ensures (omega (arith, c.len-len.ensures.count)) at c.get-route.ensures.value
+    found_here c.args.self.now list c.args.address.now c.of_address-digits.result (take n c.of_address-digits.result) n _ c.route_in-route.result stands c.of_address-digits.ensures.digits refl (omega (arith, c.len-len.ensures.count)) at c.route_in-route.ensures
     (λ k from to. c.loop-len.invariant list stands k (omega arith) to) (sym c.is_some.ensures ∙ c.if-is_some.true)
 
 pub loop-len-preserved : goal.loop-len-preserved
@@ -17,7 +17,7 @@ loop-len-preserved c = λ list stands.
     let n : ℕ = c.loop-len.len - 1 in
     let within : n < length c.args.self.now.by_length = omega arith in
     let at = slice_get-get_or c.args.self.now.by_length n c.index-self-len.result within in
-    none_here c.args.self.now list c.args.address.now c.of_address-digits.result c.first.result n _ c.get-route.result stands c.of_address-digits.ensures.digits c.first.ensures (omega (arith, c.len-len.ensures.count)) at c.get-route.ensures.value
+    none_here c.args.self.now list c.args.address.now c.of_address-digits.result (take n c.of_address-digits.result) n _ c.route_in-route.result stands c.of_address-digits.ensures.digits refl (omega (arith, c.len-len.ensures.count)) at c.route_in-route.ensures
     (λ k from to. c.loop-len.invariant list stands k (omega arith) to) (sym c.is_some.ensures ∙ c.if-is_some.false)
 
 pub returns : goal.returns
