@@ -1,12 +1,12 @@
 -- What a walk over entries comes to, one place further on.
-use Rattle.std.proofs.Common.{◌≡◌, ℕ, ◌+◌, ◌<◌, ◌≤◌, min, true, false, ◌&&◌, ◌||◌, not, List, [], ◌∷◌, ◌++◌, Option, Some, sym, ap, subst, ◌∙◌, arith, length, map, slice_get, take, drop}
+use Rattle.std.proofs.Common.{◌≡◌, ℕ, zero, suc, refl, slice_set, ◌+◌, ◌<◌, ◌≤◌, min, true, false, ◌&&◌, ◌||◌, not, List, [], ◌∷◌, ◌++◌, Option, Some, sym, ap, subst, ◌∙◌, arith, length, map, slice_get, take, drop}
 use Rattle.std.proofs.lemmas.Bool.{cond-true, cond-false, lt-ltb, le-ltb, or_left}
 use Rattle.std.proofs.lemmas.List.{drop_more, take_more, length-append, length-map, length-take, length-drop}
 use Rattle.std.proofs.lemmas.Option.{slice_get_within, get_or_from_slice_get}
 use Rattle.std.specs.List.{AllByRecursion, list_any, position_from}
 use Rattle.esis_tables.specs.declared.table.Entry.{Entry}
 use Rattle.esis_tables.specs.Numbers.{is_above, is_less_than, least_above}
-use Rattle.esis_tables.specs.State.{is_kept, is_kept_at, is_later_than, latest_kept}
+use Rattle.esis_tables.specs.State.{AreWalked, is_kept, is_kept_at, is_later_than, latest_kept}
 use Rattle.nsap.proofs.ClnpBase.Lists.{AllByRecursion-implies, AllByRecursion-push}
 use Rattle.esis_tables.proofs.Flushing.{has_ended}
 
@@ -76,6 +76,38 @@ module _ (entries : List Entry) (at : ℕ) (entry : Entry) (there : slice_get en
       subst (AllByRecursion (λ (e : Entry). sooner ≤ e.until)) (sym (take_there entries at entry there))
       (AllByRecursion-push (λ (e : Entry). sooner ≤ e.until) (take at entries) entry
       (AllByRecursion-implies (λ (e : Entry). soonest ≤ e.until) (λ (e : Entry). sooner ≤ e.until) (λ e h. omega (arith, h, is)) (take at entries) all) (omega (arith, is)))
+
+-- what is so of the first entries is so of the first of these, whatever comes behind them
+pub walked_less : (soonest number fewer : ℕ) (entries : List Entry) → fewer ≤ number → AreWalked number soonest entries → AreWalked fewer soonest entries
+walked_less soonest number zero entries less walked = tt
+walked_less soonest zero (suc fewer) entries less walked = absurd (omega (arith, less))
+walked_less soonest (suc number) (suc fewer) [] less walked = tt
+walked_less soonest (suc number) (suc fewer) (entry ∷ rest) less walked = (walked.0, walked_less soonest number fewer rest (omega (arith, less)) walked.1)
+
+pub walked_front : (soonest number : ℕ) (entries later : List Entry) (at : ℕ) → at ≤ length entries → number ≤ at
+    → AreWalked number soonest entries → AreWalked number soonest (take at entries ++ later)
+walked_front soonest zero entries later at within less walked = tt
+walked_front soonest (suc number) entries later zero within less walked = absurd (omega (arith, less))
+walked_front soonest (suc number) [] later (suc at) within less walked = absurd (omega (arith, within))
+walked_front soonest (suc number) (entry ∷ rest) later (suc at) within less walked =
+    (walked.0, walked_front soonest number rest later at (omega (arith, within)) (omega (arith, less)) walked.1)
+
+pub walked_set : (soonest number : ℕ) (entries : List Entry) (at : ℕ) (entry : Entry) → number ≤ at
+    → AreWalked number soonest entries → AreWalked number soonest (slice_set entries at entry)
+walked_set soonest zero entries at entry less walked = tt
+walked_set soonest (suc number) entries zero entry less walked = absurd (omega (arith, less))
+walked_set soonest (suc number) [] (suc at) entry less walked = tt
+walked_set soonest (suc number) (first ∷ rest) (suc at) entry less walked = (walked.0, walked_set soonest number rest at entry (omega (arith, less)) walked.1)
+
+-- of the entries that were walked over none has ended before their soonest end
+pub ended_behind : (now soonest start number : ℕ) (entries : List Entry) → now < soonest → AreWalked number soonest entries
+    → position_from (has_ended now) (start + number) (drop number entries) ≡ position_from (has_ended now) start entries
+ended_behind now soonest start zero entries before walked = ap (λ n. position_from (has_ended now) n entries) (omega arith)
+ended_behind now soonest start (suc number) [] before walked = refl
+ended_behind now soonest start (suc number) (entry ∷ rest) before walked =
+    ap (λ n. position_from (has_ended now) n (drop number rest)) (omega arith)
+    ∙ ended_behind now soonest (start + 1) number rest before walked.1
+    ∙ sym (cond-false (has_ended now entry) (Some start) (position_from (has_ended now) (start + 1) rest) (ap not (lt-ltb now entry.until (omega (arith, before, walked.0)))))
 
 -- as many entries, where something was made of some of them
 pub as_many : (f : Entry → Entry) (entries made : List Entry) (at : ℕ) → made ≡ map f (take at entries) ++ drop at entries → length made ≡ length entries

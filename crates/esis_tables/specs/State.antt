@@ -1,5 +1,5 @@
 -- What a table keeps, and where a key is in it.
-use Rattle.std.specs.Prelude.{◌≡◌, ℕ, ◌≤◌, true, Bool, ◌&&◌, nat_lt, fold, if◌then◌else◌, List, length, Option, None, Some, slice_get}
+use Rattle.std.specs.Prelude.{◌≡◌, ℕ, ◌≤◌, true, Bool, ◌&&◌, nat_lt, fold, if◌then◌else◌, List, length, Option, None, Some, slice_get, take}
 use Rattle.std.specs.List.{AllByRecursion, AllWithin}
 use Rattle.std.specs.Str.{bytes_eq}
 use Rattle.esis_tables.specs.declared.fact.Neighbour.{Neighbour}
@@ -42,6 +42,10 @@ pub record IsGap (entries : List Entry) (key : List ℕ) (place : ℕ) : Type 0 
 pub record AreBounded (soonest last : ℕ) (entries : List Entry) : Type 0 where
   pub end : AllByRecursion (λ entry. soonest ≤ entry.until) entries
   pub heard : AllByRecursion (λ entry. entry.number ≤ last) entries
+
+-- of so many first entries no time ends before a moment
+abbrev pub AreWalked : (number soonest : ℕ) → List Entry → Type 0
+AreWalked number soonest entries = AllByRecursion (λ entry. soonest ≤ entry.until) (take number entries)
 
 abbrev pub neighbour_in : Entry → Neighbour
 neighbour_in entry = entry.neighbour

@@ -1,5 +1,5 @@
 //! The keys of one kind.
-ghost use Rattle.std.specs.Prelude.{◌≡◌, ◌+◌, ◌*◌, ◌<◌, ◌≤◌, ◌-◌, ◌^◌, nat_le, insert, ℕ, List, [], ◌∷◌, not, length, map, remove, IfErr, IfOk, IfSome, MatchOption, filter, None, Some, slice_get, slice_set};
+ghost use Rattle.std.specs.Prelude.{◌≡◌, ◌+◌, ◌*◌, ◌<◌, ◌≤◌, ◌-◌, ◌^◌, nat_le, insert, ℕ, List, [], ◌∷◌, not, length, map, remove, IfErr, IfNone, IfOk, IfSome, MatchOption, min, filter, None, Some, slice_get, slice_set};
 ghost use Rattle.std.specs.List.{AllByRecursion, find, list_any, position_from};
 ghost use Rattle.std.specs.List.Sorted.{IsSearchInRange};
 ghost use Rattle.std.specs.Option.{option_map};
@@ -9,9 +9,10 @@ ghost use Rattle.esis_tables.specs.Gone.{ended_keys};
 ghost use Rattle.esis_tables.specs.Keeps.{Keeps, answer_of, kept_after, without};
 ghost use Rattle.esis_tables.specs.Order.{IsRising};
 ghost use Rattle.esis_tables.specs.Numbers.{KeepTheSame, count_above, is_less_than, least_above, lowered};
-ghost use Rattle.esis_tables.specs.State.{IsAt, IsGap, is_kept, is_kept_at, is_later_than, is_of, key_in, latest_kept, neighbour_in, neighbour_while_kept};
+ghost use Rattle.esis_tables.specs.State.{AreWalked, IsAt, IsGap, is_kept, is_kept_at, is_later_than, is_of, key_in, latest_kept, neighbour_in, neighbour_while_kept};
 
 use crate::fact::{Heard, Neighbour};
+use crate::table::hints::Hints;
 use crate::table::slots::Slots;
 use nsap::clnp_base::NoMemory;
 use nsap::{Address, Snpa};
@@ -19,6 +20,7 @@ use std::alloc::Global;
 use std::cmp::Ordering;
 use std::marker::Model;
 
+mod hints;
 mod slots;
 
 /// What a table keeps of a key: what was heard of it last.
@@ -32,26 +34,61 @@ struct Entry {
     number: u64,
 }
 
+/// A walk over the first entries, of which none ends before a moment.
+#[derive(Clone, Copy)]
+struct Walk {
+    /// How many they are.
+    entries: usize,
+    soonest: u64,
+}
+
+impl Walk {
+    /// That over none.
+    fn none() -> Walk
+        ensures { result.entries ≡ 0 }
+    {
+        Walk {
+            entries: 0,
+            soonest: u64::MAX,
+        }
+    }
+
+    /// What is left of it where the entry at a place comes, goes or is another.
+    fn up_to(self, place: usize) -> Walk
+        ensures entries { result.entries ≡ min self.entries place }
+        ensures soonest { result.soonest ≡ self.soonest }
+    {
+        Walk {
+            entries: self.entries.min(place),
+            soonest: self.soonest,
+        }
+    }
+}
+
 /// The keys of one kind, sorted.
 ///
 /// A contract sees what the table keeps; `Keeps` says which facts these are.
 #[derive(Drop)]
 pub(crate) struct Table {
     slots: Slots,
+    hints: Hints,
     /// A moment before which no time of an entry ends, so that a flush before it looks at none.
     soonest: u64,
+    /// How far the last flush walked, so that the next one at its moment goes on there.
+    walk: Walk,
     /// The greatest number that was given.
     last: u64,
 }
 
 impl Model for Table {
-    ghost use Rattle.esis_tables.specs.State.{AreBounded, TableState};
+    ghost use Rattle.esis_tables.specs.State.{AreBounded, AreWalked, TableState};
 
     ghost Value = { TableState };
 
     ghost view = { λ t. t.slots };
 
-    ghost invariant = { λ t. AreBounded t.soonest t.last t.slots.entries };
+    ghost invariant = { λ t. AreBounded t.soonest t.last t.slots.entries
+        × AreWalked t.walk.entries t.walk.soonest t.slots.entries };
 }
 
 impl Table {
@@ -65,9 +102,12 @@ impl Table {
         ensures empty { IfOk result (λ table. table.entries ≡ []) }
     {
         let slots = Slots::new(alloc, limit)?;
+        let hints = Hints::new(alloc, limit)?;
         Ok(Table {
             slots,
+            hints,
             soonest: u64::MAX,
+            walk: Walk::none(),
             last: 0,
         })
     }
@@ -156,6 +196,7 @@ impl Table {
         }
         let number = number_anew(&mut self.slots);
         self.last = number;
+        self.walk = Walk::none();
         number
     }
 
@@ -168,7 +209,9 @@ impl Table {
         ensures limit { self.new.limit ≡ self.old.limit }
     {
         self.soonest = self.soonest.min(entry.until);
+        self.walk = self.walk.up_to(at);
         self.last = entry.number;
+        self.hints.note(&entry.key, at);
         self.slots.put(at, entry);
     }
 
@@ -180,7 +223,9 @@ impl Table {
         ensures limit { self.new.limit ≡ self.old.limit }
     {
         self.soonest = self.soonest.min(entry.until);
+        self.walk = self.walk.up_to(at);
         self.last = entry.number;
+        self.hints.note(&entry.key, at);
         self.slots.set(at, entry);
     }
 
@@ -191,6 +236,7 @@ impl Table {
         ensures entries { self.new.entries ≡ remove self.old.entries at }
         ensures limit { self.new.limit ≡ self.old.limit }
     {
+        self.walk = self.walk.up_to(at);
         self.slots.take_out(at)
     }
 
@@ -207,23 +253,27 @@ impl Table {
         if now < self.soonest {
             return None;
         }
-        let Some(at) = self.first_ended(now) else {
-            self.soonest = soonest_end(&self.slots);
+        self.flush_ended(now)
+    }
+
+    /// The same, where the time of an entry may have ended.
+    fn flush_ended(&mut self, now: u64) -> Option<Address>
+        ensures flushed { (kept : List Fact) → Keeps self.old kept
+            → MatchOption result (ended_keys now kept ≡ []) (λ key. ended_keys now kept ≡ key ∷ ended_keys now (without key kept)) }
+        ensures keeps { (kept : List Fact) → Keeps self.old kept
+            → MatchOption result (Keeps self.new kept) (λ key. Keeps self.new (without key kept)) }
+        ensures held { (kept : List Fact) → Keeps self.old kept
+            → IfSome result (λ key. filter (is_held now) (without key kept) ≡ filter (is_held now) kept) }
+        ensures limit { self.new.limit ≡ self.old.limit }
+    {
+        let mut walk = self.walk;
+        let ended = first_ended(&self.slots, now, &mut walk);
+        self.walk = walk;
+        let Some(at) = ended else {
+            self.soonest = walk.soonest;
             return None;
         };
         Some(self.take_out(at).key)
-    }
-
-    /// The place of the first entry whose time has ended.
-    fn first_ended(&self, now: u64) -> Option<usize>
-        ensures { result ≡ position_from (λ entry. not (is_kept now entry)) 0 self.now.entries }
-    {
-        for at in 0..usize::from(self.len()) {
-            if self.at(at).until <= now {
-                return Some(at);
-            }
-        }
-        None
     }
 
     /// Where the system of a key is reached, while what was heard of it holds.
@@ -275,10 +325,24 @@ impl Table {
         ensures empty { self.new.entries ≡ [] }
     {
         self.slots.clear();
+        self.walk = Walk::none();
     }
 
     /// The place of the entry of a key, or else that where it would go.
     fn find(&self, key: &Address) -> Result<usize, usize>
+        ensures within { IsSearchInRange result (length self.now.entries) }
+        ensures found { IfOk result (IsAt self.now.entries key.now) }
+        ensures absent { IsRising key_in self.now.entries → IfErr result (IsGap self.now.entries key.now) }
+    {
+        let hint = self.hints.place_of(key);
+        if hint < usize::from(self.len()) && self.at(hint).key == *key {
+            return Ok(hint);
+        }
+        self.search(key)
+    }
+
+    /// The same, by halves.
+    fn search(&self, key: &Address) -> Result<usize, usize>
         ensures within { IsSearchInRange result (length self.now.entries) }
         ensures found { IfOk result (IsAt self.now.entries key.now) }
         ensures absent { IsRising key_in self.now.entries → IfErr result (IsGap self.now.entries key.now) }
@@ -315,16 +379,44 @@ fn is_later(entry: &Entry, other: &Option<Entry>) -> bool
     }
 }
 
-/// A moment before which no time of some entries ends.
-fn soonest_end(slots: &Slots) -> u64
-    ensures { AllByRecursion (λ entry. result ≤ entry.until) slots.now.entries }
+/// The place of the first entry whose time has ended. The walk goes on up to it, and over all entries where there is
+/// none; it begins anew where one of those before has ended.
+fn first_ended(slots: &Slots, now: u64, walk: &mut Walk) -> Option<usize>
+    requires { AreWalked walk.old.entries walk.old.soonest slots.now.entries }
+    ensures first { result ≡ position_from (λ entry. not (is_kept now entry)) 0 slots.now.entries }
+    ensures walked { AreWalked walk.new.entries walk.new.soonest slots.now.entries }
+    ensures all { IfNone result (AllByRecursion (λ entry. walk.new.soonest ≤ entry.until) slots.now.entries) }
 {
-    let mut soonest = u64::MAX;
-    for at in 0..usize::from(slots.len()) {
+    let before = still_walked(*walk, now);
+    let mut soonest = before.soonest;
+    for at in before.entries..usize::from(slots.len()) {
         let entry = slots.at(at);
+        if entry.until <= now {
+            *walk = Walk {
+                entries: at,
+                soonest,
+            };
+            return Some(at);
+        }
         soonest = soonest.min(entry.until);
     }
-    soonest
+    *walk = Walk {
+        entries: usize::from(slots.len()),
+        soonest,
+    };
+    None
+}
+
+/// A walk, as long as no time of its entries has ended.
+fn still_walked(walk: Walk, now: u64) -> Walk
+    ensures same { now < walk.soonest → result ≡ walk }
+    ensures none { walk.soonest ≤ now → result.entries ≡ 0 }
+{
+    if now < walk.soonest {
+        walk
+    } else {
+        Walk::none()
+    }
 }
 
 /// Numbers entries from 1 on, in the order of their numbers, and gives the next number.

@@ -7,9 +7,11 @@ use Rattle.esis_tables.proofs.table.Table.next_number.Goals as goal
 
 pub invariant_of-self : goal.invariant_of-self
 invariant_of-self c =
-    let t = c.self.inside in
-    bounded_anew t.soonest c.number_anew-number.result c.number_anew-number.new.slots.entries
-    (c.number_anew-number.ensures.same.ends t.soonest c.self.invariant.end) c.number_anew-number.ensures.above
+    let t = c.self.inside in (
+      bounded_anew t.soonest c.number_anew-number.result c.number_anew-number.new.slots.entries
+          (c.number_anew-number.ensures.same.ends t.soonest c.self.invariant.0.end) c.number_anew-number.ensures.above,
+      rw c.none-self-inside.ensures tt,
+    )
 
 pub returns-clause-keeps : goal.returns-clause-keeps
 returns-clause-keeps c kept keeps =

@@ -1,14 +1,21 @@
 -- The bounds hold of the entry too.
-use Rattle.std.proofs.Common.{◌<◌, List, sym, subst}
+use Rattle.std.proofs.Common.{ℕ, ◌<◌, ◌≤◌, List, arith, sym, subst}
 use Rattle.std.specs.List.{AllByRecursion}
 use Rattle.esis_tables.specs.declared.table.Entry.{Entry}
-use Rattle.esis_tables.specs.State.{AreBounded, TableState}
+use Rattle.esis_tables.specs.State.{AreBounded, AreWalked, TableState}
 use Rattle.esis_tables.proofs.Keeping.{bounded_set}
+use Rattle.esis_tables.proofs.Walking.{walked_less, walked_set}
 use Rattle.esis_tables.proofs.table.Table.write_over.Goals as goal
 
 pub invariant_of-self : goal.invariant_of-self
 invariant_of-self c =
     let t = c.self.inside in
     let above = subst (λ (v : TableState). AllByRecursion (λ (other : Entry). other.number < c.args.entry.number) v.entries) (sym c.self.view_is) c.requires.above in
-    let bounded = bounded_set t.soonest t.last c.min-self-inside.result t.slots.entries c.args.at c.args.entry c.min-self-inside.ensures c.self.invariant above in
-    subst (λ (l : List Entry). AreBounded c.min-self-inside.result c.args.entry.number l) (sym c.set.ensures.entries) bounded
+    let bounded = bounded_set t.soonest t.last c.min-self-inside.result t.slots.entries c.args.at c.args.entry c.min-self-inside.ensures c.self.invariant.0 above in
+    let less : c.up_to-self-inside.result.entries ≤ c.args.at = omega (arith, c.up_to-self-inside.ensures.entries) in
+    let walked = subst (λ (m : ℕ). AreWalked c.up_to-self-inside.result.entries m t.slots.entries) (sym c.up_to-self-inside.ensures.soonest)
+    (walked_less t.walk.soonest t.walk.entries c.up_to-self-inside.result.entries t.slots.entries (omega (arith, c.up_to-self-inside.ensures.entries)) c.self.invariant.1) in (
+      subst (λ (l : List Entry). AreBounded c.min-self-inside.result c.args.entry.number l) (sym c.set.ensures.entries) bounded,
+      subst (λ (l : List Entry). AreWalked c.up_to-self-inside.result.entries c.up_to-self-inside.result.soonest l) (sym c.set.ensures.entries)
+          (walked_set c.up_to-self-inside.result.soonest c.up_to-self-inside.result.entries t.slots.entries c.args.at c.args.entry less walked),
+    )

@@ -1,6 +1,6 @@
 use Rattle.std.proofs.Common.{◌≡◌, ◌∙◌, ℕ, arith, length, subst, sym}
 use Rattle.esis_tables.proofs.Places.{IsBetween, above_middle, below_middle, between_all, found_middle, gap_between}
-use Rattle.esis_tables.proofs.table.Table.find.Goals as goal
+use Rattle.esis_tables.proofs.table.Table.search.Goals as goal
 
 pub at-requires : goal.at-requires
 at-requires c = omega (arith, c.loop-low.invariant.0, c.loop-low.invariant.1, c.loop-low-test.true)

@@ -3,7 +3,7 @@ use Rattle.std.proofs.Common.{◌≤◌, ◌-◌, length}
 use Rattle.esis_tables.specs.Order.{IsRising}
 use Rattle.esis_tables.specs.State.{key_in}
 use Rattle.esis_tables.proofs.Places.{IsBetween}
-use Rattle.esis_tables.proofs.table.Table.find.Given as goal
+use Rattle.esis_tables.proofs.table.Table.search.Given as goal
 
 abbrev pub invariant-loop-low : goal.invariant-loop-low
 invariant-loop-low l =
