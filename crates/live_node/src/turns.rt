@@ -156,7 +156,7 @@ impl LiveNode {
                 to,
                 body,
                 ask,
-            } => self.send(alloc, *from, *to, body, ask, board, sink),
+            } => self.send(alloc, *from, *to, body, &ask.ask(), board, sink),
             Event::Echo {
                 system: _,
                 from,

@@ -2,7 +2,7 @@ ghost use Rattle.std.specs.Prelude.{◌≡◌, ◌+◌, ◌/◌, ◌%◌, replic
 ghost use Rattle.scenario.specs.Scenario.{moves_of, octets_of};
 ghost use Rattle.scenario.specs.declared.event.Body.TheVariants.{Pattern};
 
-use clnp_plan::Ask;
+use crate::kept_ask::KeptAsk;
 use clnp_plan::clnp_base::{NoMemory, Octets};
 use clnp_plan::forwarding::Route;
 use clnp_plan::nsap::{Address, Prefix, Snpa, Target};
@@ -61,7 +61,7 @@ pub enum Event {
         from: Address,
         to: Address,
         body: Body,
-        ask: Ask,
+        ask: KeptAsk,
     },
     /// The copy with this number, from 1, is given to a system.
     Deliver {

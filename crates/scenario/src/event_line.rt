@@ -12,6 +12,7 @@ use crate::change_line::{Settled, change_line, tick_system_line};
 use crate::code::Code;
 use crate::event::Event;
 use crate::fault::LineFault;
+use crate::kept_ask::KeptAsk;
 use crate::plan::Subnet;
 use crate::standing::Standing;
 use crate::system::is_router;
@@ -106,12 +107,13 @@ fn send_line(alloc: Global, systems: &[SystemConfig], line: &[u8]) -> Result<Eve
     let body = data_word(alloc, body)?;
     let wishes = wish_words(alloc, words)?;
     wanted(each_once(&wishes), Code::DupName)?;
+    let ask = KeptAsk::of(alloc, &ask_of(own_life(systems, system), &wishes))?;
     Ok(Event::Send {
         system,
         from,
         to,
         body,
-        ask: ask_of(own_life(systems, system), &wishes),
+        ask,
     })
 }
 

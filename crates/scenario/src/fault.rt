@@ -1,6 +1,7 @@
 //! Why a text or one of its lines is refused.
 
 use crate::code::Code;
+use clnp_plan::clnp_base::NoMemory;
 use std::alloc::{AllocError, AllocFailed};
 
 /// Why a text is no scenario.
@@ -52,6 +53,17 @@ impl From<Code> for LineFault {
 
     fn from(code: Code) -> LineFault {
         LineFault::Broken(code)
+    }
+}
+
+impl From<NoMemory> for LineFault {
+    ghost use Rattle.std.specs.Prelude.{◌≡◌};
+    ghost use Rattle.scenario.specs.declared.fault.LineFault.TheVariants.{NoMemory as memory_refused};
+
+    ghost from_gives = { λ _ fault. fault ≡ memory_refused };
+
+    fn from(_refused: NoMemory) -> LineFault {
+        LineFault::NoMemory
     }
 }
 

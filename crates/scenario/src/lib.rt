@@ -8,6 +8,7 @@ mod declarations;
 mod event;
 mod event_line;
 mod fault;
+mod kept_ask;
 pub mod laws;
 mod migration;
 mod plan;
@@ -26,6 +27,7 @@ pub use clnp_plan::{
 pub use code::Code;
 pub use event::{Body, Event, Move};
 pub use fault::{LineFault, ScenarioRefusal};
+pub use kept_ask::KeptAsk;
 pub use migration::migrate;
 pub use plan::{Scenario, Subnet};
 pub use reader::{read, read_for_run, read_version_1};

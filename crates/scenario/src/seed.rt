@@ -5,11 +5,10 @@ ghost use Rattle.scenario.specs.Seeds as seeds;
 
 use crate::event::{Body, Event};
 use crate::fault::ScenarioRefusal;
+use crate::kept_ask::KeptAsk;
 use crate::plan::Scenario;
 use crate::reader::read;
-use clnp_plan::Ask;
 use clnp_plan::clnp_base::NoMemory;
-use clnp_plan::clnp_options::OptionList;
 use clnp_plan::nsap::Address;
 use std::alloc::Global;
 
@@ -164,12 +163,7 @@ fn a_send(state: &mut u64) -> Event
         from: address_of(from),
         to: address_of(to),
         body: Body::Pattern { len, start },
-        ask: Ask {
-            life: 32,
-            report: true,
-            segment: true,
-            options: OptionList::new(),
-        },
+        ask: KeptAsk::usual(32),
     }
 }
 

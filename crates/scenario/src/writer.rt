@@ -298,7 +298,7 @@ fn push_event<'a>(
                 Word::Address(to),
                 body_text(body),
             ];
-            push_send(&words, ask, out)
+            push_send(&words, &ask.ask(), out)
         }
         Event::Deliver { copy, system } => {
             let words = [

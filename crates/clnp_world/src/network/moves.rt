@@ -150,7 +150,10 @@ impl Network {
                 to,
                 body,
                 ask,
-            } => self.send(alloc, usize::from(*system), *from, *to, body, ask, lines),
+            } => {
+                let ask = ask.ask();
+                self.send(alloc, usize::from(*system), *from, *to, body, &ask, lines)
+            }
             Event::Echo {
                 system,
                 from,

@@ -3,6 +3,7 @@ use Rattle.std.proofs.Common.{ℕ, Some, sym, subst}
 use Rattle.std.proofs.lemmas.Result.{on_ok_weaker}
 use Rattle.clnp_network.specs.Scenario.Scenario.{octets_of}
 use Rattle.clnp_network.specs.Scenario.declared.event.Event.{Event}
+use Rattle.clnp_machine.specs.ClnpPlan.declared.ask.Ask.{Ask}
 use Rattle.clnp_machine.specs.System.{AsksToSend}
 use Rattle.clnp_network.specs.LabelledNetwork as network
 use Rattle.clnp_world.specs.Parts.{Follows}
@@ -15,5 +16,7 @@ returns-in-Send c =
     (network.event_happens c.args.subnets.now c.args.limits model (Some event))) (sym c.in-Send.is)
     (subst (λ (place : ℕ). Follows c.send.new.self c.args.lines.now c.send.new.lines
     (network.asks model place (AsksToSend c.in-Send.from c.in-Send.to (octets_of c.in-Send.body) c.in-Send.ask))) c.from.ensures
-    (sends model h)))
+    (subst (λ (ask : Ask). Follows c.send.new.self c.args.lines.now c.send.new.lines
+    (network.asks model c.from.result (AsksToSend c.in-Send.from c.in-Send.to (octets_of c.in-Send.body) ask))) c.ask-ask.ensures
+    (sends model h))))
     c.send.ensures

@@ -1,5 +1,5 @@
 -- What an event asks.
-use Rattle.std.proofs.Common.{[], ap, refl}
+use Rattle.std.proofs.Common.{◌≡◌, List, [], ap, refl, rules, sym}
 use Rattle.clnp_systems.specs.Stands as clnp_systems
 use Rattle.scenario.specs.declared.event.Event.{Event}
 use Rattle.live_model.specs.Node.{Goes, come_all}
@@ -8,10 +8,10 @@ use Rattle.live_node.proofs.Playing.{plays_as, plays_nothing}
 use Rattle.live_node.proofs.node.LiveNode.do_event.Goals as goal
 
 pub returns-in-Send-clause-plays : goal.returns-in-Send-clause-plays
-returns-in-Send-clause-plays g c = rw c.in-Send.is c.send.ensures.plays
+returns-in-Send-clause-plays g c = rw (c.in-Send.is, sym c.ask.ensures) c.send.ensures.plays
 
 pub returns-in-Send-clause-breaks : goal.returns-in-Send-clause-breaks
-returns-in-Send-clause-breaks g c = rw c.in-Send.is c.send.ensures.breaks
+returns-in-Send-clause-breaks g c = rw (c.in-Send.is, sym c.ask.ensures) c.send.ensures.breaks
 
 pub returns-in-Deliver-clause-plays : goal.returns-in-Deliver-clause-plays
 returns-in-Deliver-clause-plays g c = λ node h.
