@@ -8,6 +8,7 @@ ghost use Rattle.reassembly.specs.Arrival.{octet_in};
 ghost use Rattle.reassembly.specs.Buffer as buffer;
 ghost use Rattle.reassembly.specs.Buffer.{Buffer};
 ghost use Rattle.reassembly.specs.Offered.{MayCome};
+ghost use Rattle.reassembly.specs.NoWhole.{HasNoWhole};
 ghost use Rattle.reassembly.specs.State.{IsReady, IsWholeSlot, Names, Stands};
 ghost use Rattle.fair_reassembly.specs.Behind.{StandBehind};
 ghost use Rattle.fair_reassembly.specs.Calls.{Accepts, Expires, Releases, Takes};
@@ -127,7 +128,7 @@ impl FairTable {
         requires moment { now < 2 ^ 62 }
         requires offered { MayCome segment }
         requires place { place < length self.old.tables }
-        requires ready { At self.old place (IsReady now) }
+        requires none_whole { At self.old place HasNoWhole }
         ensures { ChangesTable place self.old self.new (Accepts now segment result) }
     {
         let table = &mut self.tables[place];

@@ -5,17 +5,21 @@ use Rattle.clnp_machine.specs.ClnpPlan.declared.ask.Ask.{Ask}
 use Rattle.clnp_machine.specs.ClnpPlan.declared.ask.SendRefusal.{SendRefusal}
 use Rattle.clnp_machine.specs.ClnpPlan.declared.ask.SendRefusal.TheVariants as send_refusal
 use Rattle.clnp_machine.specs.ClnpPlan.declared.note.Note.{Note}
-use Rattle.clnp_machine.specs.PduHeader.declared.kind.Kind.TheVariants.{Erp}
+use Rattle.clnp_machine.specs.ClnpOptions.Parameter.{Parameter}
+use Rattle.clnp_machine.specs.PduHeader.declared.kind.Kind.{Kind}
+use Rattle.clnp_machine.specs.PduHeader.declared.kind.Kind.TheVariants.{Dt, Er, Erq, Erp}
 use Rattle.clnp_machine.specs.Unit.{DataUnit}
 use Rattle.clnp_machine.specs.System.{SystemState}
-use Rattle.clnp_machine.specs.Local.{echo_ask, is_answer, is_replied, make, refusal, replies, takes_reply, tells, unit_of, unless_refused, without_answered}
-use Rattle.local_entity.specs.declared.pending.Request.{Request}
+use Rattle.clnp_machine.specs.Local.{echo_ask, hand_up, is_answer, is_replied, make, refusal, replies, takes_reply, tells, unit_of, unless_refused, without_answered}
+use Rattle.local_entity.specs.declared.pending.Request.{Request as Noted}
+use Rattle.local_entity.specs.declared.purpose.Purpose.TheVariants.{Request, Reply}
 use Rattle.local_entity.specs.State.{EntityState}
 use Rattle.local_entity.specs.Local.{AreRequests, IsWhy, Stands, refusal_note}
+use Rattle.local_entity.specs.Receipt.{purpose_of}
 use Rattle.local_entity.proofs.Requests.{none_left}
 
 -- an entity with other requests stands for a system with other requests
-stands_pending : (local : EntityState) (noted : List Request) (s : SystemState) (pending : List DataUnit) → Stands local s → AreRequests noted pending
+stands_pending : (local : EntityState) (noted : List Noted) (s : SystemState) (pending : List DataUnit) → Stands local s → AreRequests noted pending
     → Stands (record local { pending = noted }) (record s { pending = pending })
 stands_pending local noted s pending stands are = record {
   configuration = stands.configuration;
@@ -30,7 +34,7 @@ stands_pending local noted s pending stands are = record {
 }
 
 -- the entity from whose requests the answered one is taken out
-pub stands_replied : (local : EntityState) (noted : List Request) (s : SystemState) (source destination octets : List ℕ) → Stands local s
+pub stands_replied : (local : EntityState) (noted : List Noted) (s : SystemState) (source destination octets : List ℕ) → Stands local s
     → AreRequests noted (without_answered (is_answer source destination octets) s.pending)
     → Stands (record local { pending = noted }) (is_replied s source destination octets).after
 stands_replied local noted s source destination octets stands are = by (find (is_answer source destination octets) s.pending) refl
@@ -59,3 +63,18 @@ pub refused_reply : (s : SystemState) (source destination octets : List ℕ) (as
 refused_reply s source destination octets ask e note asked said why =
     sym (ap (λ (r : Option Note). unless_refused r s (unit_of s Erp destination source octets ask)) (says_why e note _ said why))
     ∙ reply_is s source destination octets ask asked
+
+-- what is handed up of a unit that is to be answered, and of one that answers
+pub handed_request : (s : SystemState) (kind : Kind) (source destination octets : List ℕ) (options : List Parameter) → Request ≡ purpose_of kind options
+    → replies s source destination octets ≡ hand_up s kind source destination octets options
+handed_request s Dt source destination octets options is = absurd (cc)
+handed_request s Er source destination octets options is = absurd (cc)
+handed_request s Erq source destination octets options is = refl
+handed_request s Erp source destination octets options is = absurd (cc)
+
+pub handed_reply : (s : SystemState) (kind : Kind) (source destination octets : List ℕ) (options : List Parameter) → Reply ≡ purpose_of kind options
+    → is_replied s source destination octets ≡ hand_up s kind source destination octets options
+handed_reply s Dt source destination octets options is = absurd (cc)
+handed_reply s Er source destination octets options is = absurd (cc)
+handed_reply s Erq source destination octets options is = absurd (cc)
+handed_reply s Erp source destination octets options is = refl

@@ -20,6 +20,13 @@ module _ (local : EntityState) (s : SystemState) (content : Content) (frame : Li
   discards : discard s content reason place ≡ locally.and_then (locally.tells s (note.Discard reason place)) (λ (t : SystemState). reports t frame reason place)
   discards = ap (λ (f : List ℕ). locally.and_then (locally.tells s (note.Discard reason place)) (λ (t : SystemState). reports t f reason place)) same
 
+  -- its note alone is appended where no report is made
+  pub told_alone : reports s frame reason place ≡ rests s → (before after : List Action) → after ≡ before ++ Noted (note.Discard reason place) ∷ []
+      → Appends before after (discard s content reason place).actions
+  told_alone none before after noted =
+      subst (λ (d : Deed). Appends before after d.actions) (sym discards)
+      (subst (λ (d : Deed). Appends before after (Tells (note.Discard reason place) ∷ d.actions)) (sym none) (appends-note before after _ _ noted refl))
+
   module _ (draft : Draft) (report : IsReportOf s frame reason place draft) (n : ℕ) (number : n ≡ next_number s) where
     pub told : (before mid after : List Action) → mid ≡ before ++ Noted (note.Discard reason place) ∷ []
         → ((u : DataUnit) → IsDraft draft u → n ≡ u.number → Appends mid after (Tells (sent_note u) ∷ Sends u ∷ []))

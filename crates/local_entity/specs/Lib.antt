@@ -5,5 +5,6 @@ pub mod Local
 pub mod Receipt
 pub mod Pending
 pub mod Reporting
+pub mod Endpoint
 pub mod Seen
 pub mod Sending

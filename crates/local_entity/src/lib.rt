@@ -3,6 +3,7 @@
 #![tactic(auto)]
 
 mod action;
+mod endpoint;
 pub mod laws;
 mod local;
 mod pending;

@@ -1,52 +1,37 @@
 //! What a system does at its own addresses: it makes units, and receives what is for it (ISO/IEC 8473, sections 6.1, 6.2,
 //! 6.8 and 6.9).
-ghost use Rattle.std.specs.Prelude.{◌≡◌, ◌≤◌, ◌<◌, ◌+◌, ◌-◌, ◌^◌, ◌∷◌, [], ℕ, min, IfOk, OnOk, OnErr, List, MatchResult, None, Some, if◌then◌else◌, length, vec_capacity, vec_len};
+ghost use Rattle.std.specs.Prelude.{◌≡◌, ◌≤◌, ◌<◌, ◌+◌, ◌^◌, ℕ, false, IfOk, OnOk, OnErr, MatchResult, None, length};
 ghost use Rattle.clnp_machine.specs.ClnpOptions.Grammar.{FitsKind};
-ghost use Rattle.clnp_machine.specs.ClnpOptions.Parameter.{parameters, spelled};
-ghost use Rattle.clnp_machine.specs.ClnpViews.Extent.{whole};
-ghost use Rattle.clnp_machine.specs.ClnpPlan.declared.ask.SendRefusal.TheVariants.{TooLong};
+ghost use Rattle.clnp_machine.specs.ClnpOptions.Parameter.{parameters};
+ghost use Rattle.clnp_machine.specs.Content.{Content, IsCarried, frame_of};
 ghost use Rattle.clnp_machine.specs.PduHeader.Grammar.{is_report};
-ghost use Rattle.clnp_machine.specs.PduHeader.Headers.{SpellsHeader};
-ghost use Rattle.clnp_machine.specs.PduHeader.Parts.{AreFit, parts_value};
 ghost use Rattle.clnp_machine.specs.Reassembly.Buffer.{held};
 ghost use Rattle.clnp_machine.specs.Reassembly.State.{IsReady};
 ghost use Rattle.clnp_machine.specs.System.{SystemState, first_state, next_number};
 ghost use Rattle.clnp_machine.specs.Local as locally;
-ghost use Rattle.clnp_machine.specs.Local.{Sends, Tells, has_address, sent_note};
-ghost use Rattle.clnp_machine.specs.Unit.{DataUnit, value_of, whole_packet};
-ghost use Rattle.local_entity.specs.Local.{Appends, IsDraft, IsWhy, Stands};
-ghost use Rattle.local_entity.specs.Pool.{Stands as StandsFor};
+ghost use Rattle.clnp_machine.specs.Local.{has_address};
+ghost use Rattle.local_entity.specs.Local.{Appends, IsWhy, Stands};
 
-use crate::action::{Action, Draft, Made};
-use crate::pending::{Pending, Request};
-use crate::pool::{DrawRefusal, IdPool};
+use crate::action::Action;
+use crate::endpoint::Endpoint;
 use clnp_machine::clnp_base::NoMemory;
-use clnp_machine::clnp_views::{Frame, View};
+use clnp_machine::clnp_views::Frame;
 use clnp_machine::nsap::Address;
-use clnp_machine::pdu_header::{Header, HeaderRefusal, Kind, Parts, SegPart};
+use clnp_machine::pdu_header::Kind;
 use clnp_machine::reassembly::{Table, TableLimits};
-use clnp_machine::system_plan::{Ask, Limits, Note, SendRefusal, SystemConfig};
+use clnp_machine::system_plan::{Ask, Limits, SendRefusal, SystemConfig};
 use std::alloc::Global;
 use std::marker::Model;
 
-mod echoing;
 mod receipt;
-mod reporting;
-
-/// The most octets that a unit may have.
-const MOST_OCTETS: usize = 64_512;
 
 /// The entity of a system that serves the system's own addresses.
 ///
 /// A contract says by `Stands` which states of a system it stands for.
 #[derive(Drop)]
 pub struct Local {
-    config: SystemConfig,
-    pool: IdPool,
+    endpoint: Endpoint,
     table: Table,
-    /// The number of the last unit that it made.
-    units: u64,
-    pending: Pending,
 }
 
 impl Model for Local {
@@ -54,13 +39,11 @@ impl Model for Local {
 
     ghost Value = { EntityState };
 
-    ghost use Rattle.std.specs.Prelude.{◌≤◌};
-    ghost use Rattle.local_entity.specs.Seen.{state_of};
+    ghost use Rattle.local_entity.specs.Seen.{IsSound, state_of};
 
     ghost view = { state_of };
 
-    // A buffer that is kept no time would be due at once.
-    ghost invariant = { λ l. 1 ≤ l.table.limits.hold };
+    ghost invariant = { λ l. IsSound l.table };
 }
 
 impl Local {
@@ -88,17 +71,9 @@ impl Local {
             budget: settings.budget,
             hold: limits.hold,
         };
-        let config = config.copy(alloc)?;
-        let pool = IdPool::new(alloc, limits.reuse, quiet)?;
+        let endpoint = Endpoint::new(alloc, config, limits.reuse, quiet)?;
         let table = Table::new(alloc, table_limits)?;
-        let pending = Pending::new(alloc)?;
-        Ok(Local {
-            config,
-            pool,
-            table,
-            units: 0,
-            pending,
-        })
+        Ok(Local { endpoint, table })
     }
 
     /// Makes a unit of some octets, which are copied once nothing refuses it, and appends its note and then the unit
@@ -136,170 +111,61 @@ impl Local {
         ensures config { self.new.configuration ≡ self.old.configuration }
         ensures table { self.new.table ≡ self.old.table }
     {
-        let head = self.next_header(now, kind, from, to, body.len(), ask)?;
-        let Ok(body) = copied(alloc, body) else {
-            return Err(SendRefusal::NoMemory);
-        };
-        let unit = self.units.saturating_add(1);
-        let Ok(request) = Request::of(kind, unit, from, to, &body) else {
-            return Err(SendRefusal::NoMemory);
-        };
-        let Ok(()) = out.try_reserve(2) else {
-            return Err(SendRefusal::NoMemory);
-        };
-        let id = drawn(&mut self.pool, now, ask.segment);
-        self.pending.note(request);
-        let draft = Draft {
-            kind,
-            id,
-            from,
-            to,
-            head,
-            body,
-        };
-        Ok(self.send(draft, out))
-    }
-
-    /// Gives a unit the next number, and appends its note and then the unit itself, for which there is room.
-    fn send(&mut self, draft: Draft, out: &mut Vec<Action>) -> u64
-        requires few { draft.body.len ≤ 64512 }
-        requires room { vec_len out.old + 2 ≤ vec_capacity out.old }
-        ensures number { result ≡ min (self.old.count + 1) (2 ^ 64 - 1) }
-        ensures counted { self.new ≡ record self.old { count = result } }
-        ensures actions { (u : DataUnit) → IsDraft draft u → result ≡ u.number
-            → Appends out.old.items out.new.items (Tells (sent_note u) ∷ Sends u ∷ []) }
-        ensures len { vec_len out.new ≤ vec_len out.old + 2 }
-        ensures capacity { vec_capacity out.old ≤ vec_capacity out.new }
-    {
-        let unit = self.units.saturating_add(1);
-        self.units = unit;
-        let sent = Note::Sent {
-            kind: draft.kind,
-            unit,
-            id: draft.id,
-            from: draft.from,
-            to: draft.to,
-            len: draft.body.bytes().len() as u32,
-        };
-        out.push_reserved(Action::Note(sent));
-        out.push_reserved(Action::Send(Made {
-            unit,
-            to: draft.to,
-            head: draft.head,
-            body: draft.body,
-        }));
-        unit
-    }
-
-    /// The header of the next unit's initial PDU, unless the unit is refused.
-    fn next_header(
-        &self,
-        now: u64,
-        kind: Kind,
-        from: Address,
-        to: Address,
-        body_len: usize,
-        ask: &Ask,
-    ) -> Result<Header, SendRefusal>
-        requires moment { now < 2 ^ 62 }
-        requires options { FitsKind (is_report kind) (parameters ask.now.options) }
-        ensures answer { (s : SystemState) (octets : List ℕ) → Stands self.now s → s.moment ≡ now
-            → length octets ≡ body_len
-            → MatchResult result
-            (λ head. (locally.refusal s (locally.unit_of s kind from to octets ask.now) ≡ None)
-            × SpellsHeader (value_of (whole_packet (locally.unit_of s kind from to octets ask.now))) head)
-            (λ e. IsWhy e (locally.refusal s (locally.unit_of s kind from to octets ask.now))) }
-        ensures few { OnOk result (body_len ≤ 64512) }
-    {
-        if !self.is_own(&from) {
-            return Err(SendRefusal::NotMine);
-        }
-        if body_len > MOST_OCTETS {
-            return Err(SendRefusal::TooLong { octets: body_len });
-        }
-        let head = self.header(kind, from, to, body_len, ask)?;
-        may_draw(&self.pool, now, ask.segment)?;
-        Ok(head)
-    }
-
-    /// The header of the next unit's initial PDU, unless it is too long.
-    fn header(
-        &self,
-        kind: Kind,
-        from: Address,
-        to: Address,
-        body_len: usize,
-        ask: &Ask,
-    ) -> Result<Header, SendRefusal>
-        requires few { body_len ≤ 64512 }
-        requires options { FitsKind (is_report kind) (parameters ask.now.options) }
-        ensures { (s : SystemState) (octets : List ℕ) → Stands self.now s → length octets ≡ body_len
-            → MatchResult result
-            (λ head. SpellsHeader (value_of (whole_packet (locally.unit_of s kind from to octets ask.now))) head)
-            (λ e. (e ≡ TooLong (locally.header_size (locally.unit_of s kind from to octets ask.now)))
-            × (254 < locally.header_size (locally.unit_of s kind from to octets ask.now))) }
-    {
-        let parts = self.parts(kind, from, to, body_len, ask);
-        match Header::make(&parts, body_len) {
-            Ok(head) => Ok(head),
-            Err(HeaderRefusal::HeaderTooLong { octets }) => Err(SendRefusal::TooLong { octets }),
-            Err(HeaderRefusal::TotalTooLong { .. }) => unreachable!(),
-        }
-    }
-
-    /// What the header of the next unit's initial PDU is made from.
-    fn parts(&self, kind: Kind, from: Address, to: Address, body_len: usize, ask: &Ask) -> Parts
-        requires few { body_len ≤ 64512 }
-        requires options { FitsKind (is_report kind) (parameters ask.now.options) }
-        ensures fit { AreFit result body_len }
-        ensures value { (s : SystemState) (octets : List ℕ) → Stands self.now s → length octets ≡ body_len
-            → parts_value result octets ≡ value_of (whole_packet (locally.unit_of s kind from to octets ask.now)) }
-    {
-        Parts {
-            kind,
-            life: ask.life,
-            report: ask.report,
-            more: false,
-            to,
-            from,
-            seg: self.segmentation(&from, &to, body_len, ask),
-            options: ask.options,
-            sealed: self.config.settings().sealed,
-        }
-    }
-
-    /// The segmentation part of the next unit's initial PDU, where the unit may be segmented (section 7.4).
-    fn segmentation(
-        &self,
-        from: &Address,
-        to: &Address,
-        body_len: usize,
-        ask: &Ask,
-    ) -> Option<SegPart>
-        requires { body_len ≤ 64512 }
-        ensures { result ≡ (if ask.now.segment then Some (record {
-          id = self.now.identifiers.next;
-          offset = 0;
-          total = 17 + length to.now + length from.now + length (spelled (parameters ask.now.options)) + body_len;
-        }) else None) }
-    {
-        if !ask.segment {
-            return None;
-        }
-        let addresses = 2 + to.as_bytes().len() + from.as_bytes().len();
-        let head_len = 9 + addresses + 6 + ask.options.as_bytes().len();
-        Some(SegPart {
-            id: self.pool.next(),
-            offset: 0,
-            total: (head_len + body_len) as u16,
-        })
+        self.endpoint
+            .make(alloc, now, kind, from, to, body, ask, out)
     }
 
     /// Whether an address is one of the system's.
     pub fn is_own(&self, address: &Address) -> bool
         ensures { result ≡ has_address self.now.configuration address.now }
     {
-        self.config.addresses().iter().any(|own| own == address)
+        self.endpoint.is_own(address)
+    }
+
+    /// How an echo request or reply with so many octets of data is sent: with the system's own lifetime, without options,
+    /// and such that it may be segmented where not every subnetwork takes it in one piece.
+    pub fn echo_ask(&self, from: &Address, to: &Address, len: usize, report: bool) -> Ask
+        ensures value { (s : SystemState) → Stands self.now s → result ≡ locally.echo_ask s from.now to.now len report }
+        ensures options { FitsKind false (parameters result.options) }
+    {
+        self.endpoint.echo_ask(from, to, len, report)
+    }
+
+    /// Discards a PDU that came in a frame, for a reason and with the place of the octet at fault, and appends what is
+    /// noted and sent (ISO/IEC 8473, section 6.9): an error report is made where the frame is reportable, from the system's
+    /// title (section 6.10).
+    ///
+    /// # Errors
+    ///
+    /// `NoMemory`: nothing changes then.
+    pub fn discard(
+        &mut self,
+        alloc: Global,
+        now: u64,
+        frame: &Frame,
+        reason: u8,
+        place: u8,
+        out: &mut Vec<Action>,
+    ) -> Result<(), NoMemory>
+        requires moment { now < 2 ^ 62 }
+        requires few { length frame.now ≤ 70000 }
+        ensures stands { OnOk result ((s : SystemState) (content : Content) → Stands self.old s → s.moment ≡ now
+            → IsCarried content → frame_of content ≡ frame.now
+            → Stands self.new (locally.discard s content reason place).after) }
+        ensures actions { OnOk result ((s : SystemState) (content : Content) → Stands self.old s → s.moment ≡ now
+            → IsCarried content → frame_of content ≡ frame.now
+            → Appends out.old.items out.new.items (locally.discard s content reason place).actions) }
+        ensures same { OnErr result (self.new ≡ self.old) }
+        ensures none { OnErr result (out.new.items ≡ out.old.items) }
+        ensures config { self.new.configuration ≡ self.old.configuration }
+        ensures table { self.new.table ≡ self.old.table }
+    {
+        let frame = frame.view()?;
+        let Ok(()) = out.try_reserve(3) else {
+            return Err(NoMemory);
+        };
+        self.endpoint.discard(frame, reason, place, out);
+        Ok(())
     }
 
     /// Forgets the identifiers that were used, all segments and all echo requests, and is quiet as long as an identifier
@@ -311,9 +177,8 @@ impl Local {
         ensures config { self.new.configuration ≡ self.old.configuration }
         ensures ready { (moment : ℕ) → IsReady moment self.new.table }
     {
-        self.pool.restart(now);
+        self.endpoint.restart(now);
         self.table.clear();
-        self.pending.clear();
     }
 
     /// How many octets are held for reassembly: of the whole frames in which kept segments came.
@@ -327,42 +192,6 @@ impl Local {
     pub fn config(&self) -> &SystemConfig
         ensures { result.now ≡ self.now.configuration }
     {
-        &self.config
+        self.endpoint.config()
     }
-}
-
-/// The view of a copy of some octets.
-fn copied(alloc: Global, octets: &[u8]) -> Result<View, NoMemory>
-    ensures { IfOk result (λ view. view ≡ whole octets.now) }
-{
-    Ok(Frame::copy(alloc, octets)?.into_view())
-}
-
-/// Whether an identifier can be drawn, where one is needed.
-fn may_draw(pool: &IdPool, now: u64, segment: bool) -> Result<(), SendRefusal>
-    requires { now < 2 ^ 62 }
-    ensures { (s : SystemState) → StandsFor pool.now s.identifiers → s.moment ≡ now → MatchResult result
-        (λ _. locally.identifier_refusal s (locally.identifier_for s segment) ≡ None)
-        (λ e. IsWhy e (locally.identifier_refusal s (locally.identifier_for s segment))) }
-{
-    if !segment {
-        return Ok(());
-    }
-    match pool.ready(now) {
-        Ok(()) => Ok(()),
-        Err(DrawRefusal::Quiet { until }) => Err(SendRefusal::Quiet { until }),
-        Err(DrawRefusal::IdsBusy { used }) => Err(SendRefusal::IdsBusy { used }),
-    }
-}
-
-/// The identifier of the next unit, where it needs one.
-fn drawn(pool: &mut IdPool, now: u64, segment: bool) -> Option<u16>
-    ensures id { (s : SystemState) → StandsFor pool.old s.identifiers → result ≡ locally.identifier_for s segment }
-    ensures stands { (s : SystemState) → StandsFor pool.old s.identifiers → s.moment ≡ now
-        → StandsFor pool.new (locally.with_use s (locally.identifier_for s segment)) }
-{
-    if !segment {
-        return None;
-    }
-    Some(pool.use_next(now))
 }

@@ -291,7 +291,7 @@ cut_none place (run ∷ others) none =
     let parts = any_parts place run others none in
     rw parts.0 (ap (λ l. run ∷ l) (cut_none place others parts.1))
 
-none_at_end : (place from to : ℕ) (runs : List Run) → AreJoined from to runs → to ≤ place → NoneAcross place runs
+pub none_at_end : (place from to : ℕ) (runs : List Run) → AreJoined from to runs → to ≤ place → NoneAcross place runs
 none_at_end place from to [] joined high = refl
 none_at_end place from to (run ∷ others) joined high =
     let order = joined_order run.to to others joined.1.1 in

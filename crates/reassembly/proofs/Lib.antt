@@ -1,3 +1,4 @@
+pub mod Apart
 pub mod AsBefore
 pub mod Closing
 pub mod Counted
@@ -26,6 +27,7 @@ pub mod LawTimes
 pub mod Mapped
 pub mod NoWhole
 pub mod Opened
+pub mod Paged
 pub mod Ready
 pub mod Refusing
 pub mod Removing

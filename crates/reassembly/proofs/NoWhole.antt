@@ -16,37 +16,37 @@ pub use Rattle.reassembly.proofs.Ready.{none_whole-without_due}
 use Rattle.reassembly.proofs.Ready.{none_whole-after, none_whole-released, none_whole-undone, said_not_whole, whole_slot}
 use Rattle.nsap.proofs.ClnpBase.Choices.{none_mapped}
 
-module _ (old new : TableState) (now : ℕ) (segment : Segment) (told : Accept) (ready : IsReady now old)
+module _ (old new : TableState) (now : ℕ) (segment : Segment) (told : Accept) (none : HasNoWhole old)
     (answered : (buffers : List (Buffer Extent)) → Stands old buffers → said told ≡ answer old.limits now (arrival_of segment) buffers)
     (stands : (buffers : List (Buffer Extent)) → Stands old buffers → Stands new (after old.limits now (arrival_of segment) buffers)) where
-  later : Stands new (after old.limits now (arrival_of segment) ready.buffers)
-  later = stands ready.buffers ready.stands
+  later : Stands new (after old.limits now (arrival_of segment) none.buffers)
+  later = stands none.buffers none.stands
 
   module _ (slot : SlotNo) (e : told ≡ accept.Whole slot) where
-    is_whole_answer : answer old.limits now (arrival_of segment) ready.buffers ≡ Whole
-    is_whole_answer = sym (answered ready.buffers ready.stands) ∙ subst (λ t. said t ≡ Whole) (sym e) refl
+    is_whole_answer : answer old.limits now (arrival_of segment) none.buffers ≡ Whole
+    is_whole_answer = sym (answered none.buffers none.stands) ∙ subst (λ t. said t ≡ Whole) (sym e) refl
 
     pub slot_whole : Names new slot.0 segment.key → IsWholeSlot new slot.0
-    slot_whole named = whole_slot new slot.0 old.limits now segment ready.buffers later named is_whole_answer
+    slot_whole named = whole_slot new slot.0 old.limits now segment none.buffers later named is_whole_answer
 
     pub slot_completed : Names new slot.0 segment.key → IsCompleted new slot.0
     slot_completed named =
         record {
-          buffers = after old.limits now (arrival_of segment) ready.buffers;
+          buffers = after old.limits now (arrival_of segment) none.buffers;
           stands = later;
           key = segment.key;
           named = named;
-          none_without = none_whole-released old.limits now (arrival_of segment) ready.buffers ready.ready.none_whole is_whole_answer;
-          none_undone = none_whole-undone old.limits now (arrival_of segment) ready.buffers ready.ready.none_whole is_whole_answer;
+          none_without = none_whole-released old.limits now (arrival_of segment) none.buffers none.none_whole is_whole_answer;
+          none_undone = none_whole-undone old.limits now (arrival_of segment) none.buffers none.none_whole is_whole_answer;
         }
 
   pub still_none_whole : ((slot : SlotNo) → told ≢ accept.Whole slot) → HasNoWhole new
   still_none_whole not =
       record {
-        buffers = after old.limits now (arrival_of segment) ready.buffers;
+        buffers = after old.limits now (arrival_of segment) none.buffers;
         stands = later;
-        none_whole = none_whole-after old.limits now (arrival_of segment) ready.buffers ready.ready.none_whole
-            (λ whole. said_not_whole told not (answered ready.buffers ready.stands ∙ whole));
+        none_whole = none_whole-after old.limits now (arrival_of segment) none.buffers none.none_whole
+            (λ whole. said_not_whole told not (answered none.buffers none.stands ∙ whole));
       }
 
 pub released_none_whole : (old new : TableState) (slot : ℕ)

@@ -9,6 +9,7 @@ pub mod Mapped
 pub mod NoWhole
 pub mod Offered
 pub mod Openings
+pub mod Pages
 pub mod Runs
 pub mod Sound
 pub mod State

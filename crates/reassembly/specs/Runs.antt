@@ -1,5 +1,5 @@
 -- Runs of places of a unit's data: holes, and pieces that kept segments fill.
-use Rattle.std.specs.Prelude.{◌≡◌, ℕ, ◌<◌, ◌&&◌, not, max, min, nat_le, nat_lt, Bool, if◌then◌else◌, List, [], ◌∷◌, length, map, sum, take, drop, filter, Option, None, Some, is_none, slice_get}
+use Rattle.std.specs.Prelude.{◌≡◌, ℕ, ◌<◌, ◌&&◌, not, max, min, nat_le, nat_lt, Bool, if◌then◌else◌, List, [], ◌∷◌, length, map, sum, filter, Option, None, Some, is_none, slice_get}
 use Rattle.reassembly.specs.declared.runs.Run.{Run}
 
 -- the runs of each unit, and for how many units and runs there is room
@@ -7,11 +7,6 @@ pub record RunsState : Type 0 where
   pub groups : List (List Run)
   pub slots : ℕ
   pub room : ℕ
-
--- a list cut into parts of these lengths
-abbrev pub groups_of : List ℕ → List Run → List (List Run)
-groups_of [] runs = []
-groups_of (count ∷ counts) runs = take count runs ∷ groups_of counts (drop count runs)
 
 -- how many runs there are in all
 abbrev pub total_runs : List (List Run) → ℕ

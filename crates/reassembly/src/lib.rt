@@ -4,6 +4,7 @@
 
 pub mod laws;
 mod openings;
+mod page;
 mod pieces;
 mod runs;
 mod segment;

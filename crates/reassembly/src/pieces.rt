@@ -10,7 +10,7 @@ ghost use Rattle.reassembly.specs.Offered.{MayCome};
 ghost use Rattle.reassembly.specs.Runs.{AreJoined, filler};
 ghost use Rattle.reassembly.specs.State.{segments_of};
 
-use crate::runs::Run;
+use crate::runs::Group;
 use crate::segment::{Key, Segment};
 use std::marker::Model;
 
@@ -20,7 +20,7 @@ use std::marker::Model;
 #[derive(Drop)]
 pub struct Pieces<'a> {
     entries: &'a [Option<Segment>],
-    runs: &'a [Run],
+    runs: Group<'a>,
     key: Key,
     place: usize,
     end: usize,
@@ -44,22 +44,22 @@ impl<'a> Model for Pieces<'a> {
 
     ghost invariant = { λ p. (p.place ≤ p.end) × AllByRecursion MayCome (present p.entries.now)
         × (are_covered (map arrival_of (segments_of p.key (present p.entries.now))) p.place (p.end - p.place) ≡ true)
-        × AreJoined p.place p.end p.runs.now
-        × ((at : ℕ) → p.place ≤ at → at < p.end → filler at p.runs.now ≡ giver p.key at p.entries.now) };
+        × AreJoined p.place p.end p.runs
+        × ((at : ℕ) → p.place ≤ at → at < p.end → filler at p.runs ≡ giver p.key at p.entries.now) };
 }
 
 impl<'a> Pieces<'a> {
     /// The data of the unit whose segments are those of the key, which cover `end` places, by its runs.
     pub(crate) fn new(
         entries: &'a [Option<Segment>],
-        runs: &'a [Run],
+        runs: Group<'a>,
         key: Key,
         end: usize,
     ) -> Pieces<'a>
         requires came { AllByRecursion MayCome (present entries.now) }
         requires covered { are_covered (map arrival_of (segments_of key (present entries.now))) 0 end ≡ true }
-        requires joined { AreJoined 0 end runs.now }
-        requires filled { (at : ℕ) → at < end → filler at runs.now ≡ giver key at entries.now }
+        requires joined { AreJoined 0 end runs }
+        requires filled { (at : ℕ) → at < end → filler at runs ≡ giver key at entries.now }
         ensures { result ≡ map (λ place. octet_by octet_in place (earliest (map arrival_of (segments_of key (present entries.now))) place)) (range_with_len 0 end) }
     {
         Pieces {
@@ -82,7 +82,7 @@ impl<'a> Iterator for Pieces<'a> {
     ghost remaining = { item_count (λ left. left) };
 
     fn next(&mut self) -> Option<&'a [u8]> {
-        let Some((run, rest)) = self.runs.split_first() else {
+        let Some(run) = self.runs.next() else {
             return None;
         };
         let Some(by) = run.by else {
@@ -93,7 +93,6 @@ impl<'a> Iterator for Pieces<'a> {
         };
         let len = usize::from(run.to - run.from);
         let piece = segment.octets(usize::from(run.from), len);
-        self.runs = rest;
         self.place = usize::from(run.to);
         Some(piece)
     }

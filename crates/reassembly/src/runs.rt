@@ -1,10 +1,12 @@
-//! Runs of places of a unit's data: holes, and pieces that kept segments fill. The runs of all open units stand in one
-//! list, those of one unit together.
-ghost use Rattle.std.specs.Prelude.{◌≡◌, ◌+◌, ◌<◌, ◌≤◌, ◌^◌, List, [], ◌∷◌, ◌++◌, drop, length, map, not, sum, take, None, Some, IfOk, slice_get, slice_set, vec_capacity};
-ghost use Rattle.std.specs.List.{AllByRecursion, list_any, position_from, remove};
+//! Runs of places of a unit's data: holes, and pieces that kept segments fill. They stand on pages, so that a segment moves
+//! few of them; the pages of all open units stand in one list, those of one unit together.
+ghost use Rattle.std.specs.Prelude.{◌≡◌, ◌+◌, ◌<◌, ◌≤◌, ◌^◌, List, [], ◌∷◌, ◌++◌, drop, length, map, sum, take, IfOk, MatchOption, Some, slice_get, slice_set, vec_capacity};
+ghost use Rattle.std.specs.List.{list_any, position_from, remove};
 ghost use Rattle.reassembly.specs.declared.runs.Run.{Run};
-ghost use Rattle.reassembly.specs.Runs.{AreInOrder, cut, filled, is_across, is_gap, marked, named_in, renamed, total_runs, unfilled};
+ghost use Rattle.reassembly.specs.Pages.{AreCut, ends_behind, on_pages};
+ghost use Rattle.reassembly.specs.Runs.{AreInOrder, cut, filled, is_gap, marked, renamed, total_runs, unfilled};
 
+use crate::page::{PAGE, Page, has_gap as has_gap_in};
 use nsap::clnp_base::NoMemory;
 use std::alloc::Global;
 use std::marker::Model;
@@ -25,20 +27,26 @@ pub(crate) struct Run {
 /// in that order, which isn't the slot of its buffer.
 #[derive(Drop)]
 pub(crate) struct Runs {
-    /// How many runs each unit has.
+    /// How many pages each unit has.
     counts: Vec<usize>,
-    runs: Vec<Run>,
+    pages: Vec<Page>,
+    /// Pages that no unit has.
+    spare: Vec<Page>,
+    slots: usize,
+    room: usize,
 }
 
 impl Model for Runs {
-    ghost use Rattle.std.specs.Prelude.{◌≡◌, ◌<◌, ◌^◌, length, sum, vec_capacity};
-    ghost use Rattle.reassembly.specs.Runs.{RunsState, groups_of};
+    ghost use Rattle.std.specs.Prelude.{◌≤◌, map, min, vec_capacity};
+    ghost use Rattle.reassembly.specs.Pages.{ArePages, groups_of, on_pages};
+    ghost use Rattle.reassembly.specs.Runs.{RunsState};
 
     ghost Value = { RunsState };
 
-    ghost view = { λ r. record { groups = groups_of r.counts.items r.runs.items; slots = vec_capacity r.counts; room = vec_capacity r.runs } };
+    ghost view = { λ r. record { groups = map on_pages (groups_of r.counts.items r.pages.items); slots = r.slots; room = r.room } };
 
-    ghost invariant = { λ r. sum r.counts.items ≡ length r.runs.items };
+    ghost invariant = { λ r. ArePages r.counts.items r.pages.items r.spare.items r.slots r.room (min (vec_capacity r.pages) (vec_capacity r.spare))
+        × (r.slots ≤ vec_capacity r.counts) };
 }
 
 impl Runs {
@@ -48,15 +56,25 @@ impl Runs {
     ///
     /// `NoMemory`.
     pub(crate) fn new(alloc: Global, slots: usize, room: usize) -> Result<Runs, NoMemory>
+        requires { slots + room < 2 ^ 32 }
         ensures { IfOk result (λ runs. runs ≡ record { groups = []; slots = slots; room = room }) }
     {
+        // Each page of a unit that has more than one is at least half full.
+        let most = slots + room / (PAGE / 2) + 2;
         let Ok(counts) = Vec::with_capacity(alloc, slots) else {
             return Err(NoMemory);
         };
-        let Ok(runs) = Vec::with_capacity(alloc, room) else {
+        let Ok(pages) = Vec::with_capacity(alloc, most) else {
             return Err(NoMemory);
         };
-        Ok(Runs { counts, runs })
+        let spare = blank_pages(alloc, most)?;
+        Ok(Runs {
+            counts,
+            pages,
+            spare,
+            slots,
+            room,
+        })
     }
 
     /// Opens a unit with so many places, none of which is filled.
@@ -67,26 +85,28 @@ impl Runs {
         ensures slots { self.old.slots ≤ self.new.slots }
         ensures room { self.old.room ≤ self.new.room }
     {
-        let hole = Run {
-            from: 0,
-            to: places,
-            by: None,
+        let Some(mut page) = self.spare.pop() else {
+            unreachable!()
         };
+        page.open(places);
         let Ok(()) = self.counts.push(1) else {
             unreachable!()
         };
-        let Ok(()) = self.runs.push(hole) else {
+        let Ok(()) = self.pages.push(page) else {
             unreachable!()
         };
     }
 
     /// The runs of a unit, one behind the other.
-    pub(crate) fn group(&self, slot: usize) -> &[Run]
+    pub(crate) fn group(&self, slot: usize) -> Group<'_>
         requires { slot < length self.now.groups }
-        ensures { slice_get self.now.groups slot ≡ Some result.now }
+        ensures { slice_get self.now.groups slot ≡ Some result }
     {
         let start = start_of(&self.counts, slot);
-        &self.runs[start..start + self.counts[slot]]
+        Group {
+            first: &[],
+            others: &self.pages[start..start + self.counts[slot]],
+        }
     }
 
     /// Fills the holes of a unit from a place to the place before another: they are pieces of a segment then.
@@ -115,7 +135,13 @@ impl Runs {
         ensures room { self.old.room ≤ self.new.room }
     {
         let start = start_of(&self.counts, slot);
-        let count = cut_hole(&mut self.runs, start, self.counts[slot], place);
+        let count = cut_pages(
+            &mut self.pages,
+            &mut self.spare,
+            start,
+            self.counts[slot],
+            place,
+        );
         self.counts[slot] = count;
     }
 
@@ -130,7 +156,7 @@ impl Runs {
     {
         let start = start_of(&self.counts, slot);
         let end = start + self.counts[slot];
-        mark_holes(&mut self.runs[start..end], from, to, by);
+        mark_pages(&mut self.pages[start..end], from, to, by);
     }
 
     /// Takes the runs of a unit out.
@@ -142,7 +168,7 @@ impl Runs {
     {
         let start = start_of(&self.counts, slot);
         let count = self.counts.remove(slot);
-        drop(self.runs.drain(start..start + count));
+        take_pages(&mut self.pages, &mut self.spare, start, count);
     }
 
     /// Gives the segments other indices: those that stand at theirs.
@@ -151,7 +177,7 @@ impl Runs {
         ensures slots { self.old.slots ≤ self.new.slots }
         ensures room { self.old.room ≤ self.new.room }
     {
-        rename_all(&mut self.runs, names);
+        rename_pages(&mut self.pages, names);
     }
 
     /// Takes all runs out.
@@ -161,22 +187,73 @@ impl Runs {
         ensures room { self.old.room ≤ self.new.room }
     {
         self.counts.clear();
-        self.runs.clear();
+        let count = self.pages.len();
+        take_pages(&mut self.pages, &mut self.spare, 0, count);
+    }
+}
+
+/// Runs of a unit, one behind the other, on pages.
+///
+/// A contract sees the list of the runs.
+#[derive(Drop)]
+pub(crate) struct Group<'a> {
+    /// What is left of the runs of a page.
+    first: &'a [Run],
+    others: &'a [Page],
+}
+
+impl<'a> Model for Group<'a> {
+    ghost use Rattle.std.specs.Prelude.{◌++◌, List};
+    ghost use Rattle.reassembly.specs.declared.runs.Run.{Run};
+    ghost use Rattle.reassembly.specs.Pages.{on_pages};
+
+    ghost Value = { List Run };
+
+    ghost view = { λ g. g.first.now ++ on_pages g.others.now };
+}
+
+impl<'a> Group<'a> {
+    /// The next run, which isn't one of those that are left then.
+    pub(crate) fn next(&mut self) -> Option<Run>
+        ensures { MatchOption result ((self.old ≡ []) × (self.new ≡ [])) (λ run. self.old ≡ run ∷ self.new) }
+    {
+        loop {
+            if let Some((run, rest)) = self.first.split_first() {
+                self.first = rest;
+                return Some(*run);
+            }
+            let Some((page, others)) = self.others.split_first() else {
+                return None;
+            };
+            self.first = page.runs();
+            self.others = others;
+        }
     }
 }
 
 /// Whether a hole has a place from `from` to the place before `to`.
-pub(crate) fn has_gap(runs: &[Run], from: u16, to: u16) -> bool
+pub(crate) fn has_gap(runs: &Group<'_>, from: u16, to: u16) -> bool
     requires { AreInOrder runs.now }
     ensures { result ≡ list_any (is_gap from to) runs.now }
 {
-    let last = begun_before(runs, to);
-    let first = ended_by(&runs[..last], from);
-    is_gap_among(&runs[first..last], from, to)
+    has_gap_in(runs.first, from, to) || have_gap(runs.others, from, to)
+}
+
+/// The same of runs on pages.
+fn have_gap(pages: &[Page], from: u16, to: u16) -> bool
+    requires { AreInOrder (on_pages pages.now) }
+    ensures { result ≡ list_any (is_gap from to) (on_pages pages.now) }
+{
+    for page in pages {
+        if page.has_gap(from, to) {
+            return true;
+        }
+    }
+    false
 }
 
 /// Whether a unit with so many places has a hole, of which the places from `from` to the place before `to` were filled last.
-pub(crate) fn has_hole(runs: &[Run], from: u16, to: u16, places: u16) -> bool
+pub(crate) fn has_hole(runs: &Group<'_>, from: u16, to: u16, places: u16) -> bool
     requires order { AreInOrder runs.now }
     requires within { (from ≤ places) × (to ≤ places) }
     ensures { result ≡ list_any (is_gap 0 places) runs.now }
@@ -191,41 +268,7 @@ pub(crate) fn has_hole(runs: &[Run], from: u16, to: u16, places: u16) -> bool
     has_gap(runs, 0, places)
 }
 
-/// Whether one of some runs is a hole with a place from `from` to the place before `to`.
-fn is_gap_among(runs: &[Run], from: u16, to: u16) -> bool
-    ensures { result ≡ list_any (is_gap from to) runs.now }
-{
-    runs.iter().any(|run| is_gap(run, from, to))
-}
-
-/// How many runs end by a place: the first ones.
-fn ended_by(runs: &[Run], place: u16) -> usize
-    requires { AreInOrder runs.now }
-    ensures within { result ≤ length runs.now }
-    ensures ended { AllByRecursion (λ run. run.to ≤ place) (take result runs.now) }
-    ensures others { AllByRecursion (λ run. place < run.to) (drop result runs.now) }
-{
-    runs.partition_point(|run| run.to <= place)
-}
-
-/// How many runs begin before a place: the first ones.
-fn begun_before(runs: &[Run], place: u16) -> usize
-    requires { AreInOrder runs.now }
-    ensures within { result ≤ length runs.now }
-    ensures begun { AllByRecursion (λ run. run.from < place) (take result runs.now) }
-    ensures others { AllByRecursion (λ run. place ≤ run.from) (drop result runs.now) }
-{
-    runs.partition_point(|run| run.from < place)
-}
-
-/// Whether a run is a hole with a place from `from` to the place before `to`.
-fn is_gap(run: &Run, from: u16, to: u16) -> bool
-    ensures { result ≡ is_gap from to run.now }
-{
-    run.by.is_none() && run.from.max(from) < run.to.min(to)
-}
-
-/// How many runs the units before one have.
+/// How many pages the units before one have.
 fn start_of(counts: &[usize], slot: usize) -> usize
     requires slot { slot ≤ length counts.now }
     requires few { sum counts.now < 2 ^ 64 }
@@ -238,89 +281,97 @@ fn start_of(counts: &[usize], slot: usize) -> usize
     start
 }
 
-/// Cuts the hole that a place lies in, where it is one of `count` runs from `start` on; tells how many these are then.
-fn cut_hole(runs: &mut Vec<Run>, start: usize, count: usize, place: u16) -> usize
-    requires within { start + count ≤ length runs.old.items }
-    requires room { length runs.old.items < vec_capacity runs.old }
-    requires order { AreInOrder (take count (drop start runs.old.items)) }
-    ensures items { runs.new.items ≡ take start runs.old.items
-        ++ (cut place (take count (drop start runs.old.items)) ++ drop count (drop start runs.old.items)) }
-    ensures count { result ≡ length (cut place (take count (drop start runs.old.items))) }
-    ensures capacity { vec_capacity runs.new ≡ vec_capacity runs.old }
+/// So many pages without runs.
+fn blank_pages(alloc: Global, count: usize) -> Result<Vec<Page>, NoMemory>
+    ensures { IfOk result (λ pages. (length pages.items ≡ count) × (count ≤ vec_capacity pages)) }
 {
-    let Some(at) = hole_across(&runs[start..start + count], place) else {
-        return count;
+    let Ok(mut pages) = Vec::with_capacity(alloc, count) else {
+        return Err(NoMemory);
     };
-    let run = runs[start + at];
-    runs[start + at] = Run { to: place, ..run };
-    let Ok(()) = runs.insert(start + at + 1, Run { from: place, ..run }) else {
-        unreachable!()
-    };
-    count + 1
+    for _ in 0..count {
+        let page = Page::new(alloc)?;
+        let Ok(()) = pages.push(page) else {
+            return Err(NoMemory);
+        };
+    }
+    Ok(pages)
 }
 
-/// The index of the hole that a place lies in, and doesn't begin.
-fn hole_across(runs: &[Run], place: u16) -> Option<usize>
-    requires { AreInOrder runs.now }
-    ensures { result ≡ position_from (is_across place) 0 runs.now }
+/// The index of the page on which the first run stands that ends behind a place.
+fn page_of(pages: &[Page], place: u16) -> Option<usize>
+    ensures { result ≡ position_from (ends_behind place) 0 pages.now }
 {
-    let at = ended_by(runs, place);
-    let run = runs.get(at)?;
-    if run.by.is_none() && run.from < place {
-        Some(at)
-    } else {
-        None
+    pages.iter().position(|page| page.ends_behind(place))
+}
+
+/// Cuts the hole that a place lies in, where it stands on one of `count` pages from `start` on; tells how many these are
+/// then.
+fn cut_pages(
+    pages: &mut Vec<Page>,
+    spare: &mut Vec<Page>,
+    start: usize,
+    count: usize,
+    place: u16,
+) -> usize
+    requires within { start + count ≤ length pages.old.items }
+    requires order { AreInOrder (on_pages (take count (drop start pages.old.items))) }
+    requires spare { 0 < length spare.old.items }
+    requires room { length pages.old.items + length spare.old.items ≤ vec_capacity pages.old }
+    requires spare_room { length pages.old.items + length spare.old.items ≤ vec_capacity spare.old }
+    ensures cut { AreCut place start count result pages.old.items spare.old.items pages.new.items spare.new.items }
+    ensures capacity { vec_capacity pages.old ≤ vec_capacity pages.new }
+    ensures spare_capacity { vec_capacity spare.old ≤ vec_capacity spare.new }
+{
+    let Some(at) = page_of(&pages[start..start + count], place) else {
+        return count;
+    };
+    let Some(mut other) = spare.pop() else {
+        unreachable!()
+    };
+    if pages[start + at].cut(place, &mut other) {
+        let Ok(()) = pages.insert(start + at + 1, other) else {
+            unreachable!()
+        };
+        return count + 1;
     }
+    let Ok(()) = spare.push(other) else {
+        unreachable!()
+    };
+    count
 }
 
 /// Makes each hole from a place to the place before another a piece of a segment.
-fn mark_holes(runs: &mut [Run], from: u16, to: u16, by: u16)
-    requires { AreInOrder runs.old }
-    ensures { runs.new ≡ map (marked from to by) runs.old }
+fn mark_pages(pages: &mut [Page], from: u16, to: u16, by: u16)
+    requires { AreInOrder (on_pages pages.old) }
+    ensures { pages.new ≡ map (map (marked from to by)) pages.old }
 {
-    let last = begun_before(runs, to);
-    let first = ended_by(&runs[..last], from);
-    mark_each(&mut runs[first..last], from, to, by);
-}
-
-/// The same, by a walk over the runs.
-fn mark_each(runs: &mut [Run], from: u16, to: u16, by: u16)
-    ensures { runs.new ≡ map (marked from to by) runs.old }
-{
-    for run in runs.iter_mut() {
-        *run = marked(*run, from, to, by);
-    }
-}
-
-/// A run, as a piece of a segment where it is a hole from a place to the place before another.
-fn marked(run: Run, from: u16, to: u16, by: u16) -> Run
-    ensures { result ≡ marked from to by run }
-{
-    if run.by.is_none() && from <= run.from && run.to <= to {
-        Run {
-            by: Some(by),
-            ..run
-        }
-    } else {
-        run
+    for page in pages.iter_mut() {
+        page.mark(from, to, by);
     }
 }
 
 /// Gives the segment of each run another index.
-fn rename_all(runs: &mut [Run], names: &[u16])
-    ensures { runs.new ≡ map (renamed names.now) runs.old }
+fn rename_pages(pages: &mut [Page], names: &[u16])
+    ensures { pages.new ≡ map (map (renamed names.now)) pages.old }
 {
-    for run in runs.iter_mut() {
-        *run = Run {
-            by: name_of(run.by, names),
-            ..*run
-        };
+    for page in pages.iter_mut() {
+        page.rename(names);
     }
 }
 
-/// What stands at an index, if there is one.
-fn name_of(by: Option<u16>, names: &[u16]) -> Option<u16>
-    ensures { result ≡ named_in names.now by }
+/// Takes `count` pages from `start` on out. They are spare then.
+fn take_pages(pages: &mut Vec<Page>, spare: &mut Vec<Page>, start: usize, count: usize)
+    requires within { start + count ≤ length pages.old.items }
+    requires room { length pages.old.items + length spare.old.items ≤ vec_capacity spare.old }
+    ensures pages { pages.new.items ≡ take start pages.old.items ++ drop (start + count) pages.old.items }
+    ensures spare { length spare.new.items ≡ length spare.old.items + count }
+    ensures capacity { vec_capacity pages.new ≡ vec_capacity pages.old }
+    ensures spare_capacity { vec_capacity spare.old ≤ vec_capacity spare.new }
 {
-    names.get(usize::from(by?)).copied()
+    for _ in 0..count {
+        let page = pages.remove(start);
+        let Ok(()) = spare.push(page) else {
+            unreachable!()
+        };
+    }
 }

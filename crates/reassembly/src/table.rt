@@ -8,7 +8,7 @@ ghost use Rattle.reassembly.specs.Buffer.{Buffer};
 ghost use Rattle.reassembly.specs.Kept.{IsKept, with_opening};
 ghost use Rattle.reassembly.specs.NoWhole.{HasNoWhole, IsCompleted};
 ghost use Rattle.reassembly.specs.Offered.{MayCome, openings_of};
-ghost use Rattle.reassembly.specs.State.{IsAt, IsReady, IsWholeSlot, MayKeep, Names, SlotsStay, Stands, place_of, said, segments_of, was_kept};
+ghost use Rattle.reassembly.specs.State.{IsAt, IsWholeSlot, MayKeep, Names, SlotsStay, Stands, place_of, said, segments_of, was_kept};
 
 use crate::openings::{Opening, Openings};
 use crate::pieces::Pieces;
@@ -141,7 +141,7 @@ impl Table {
     pub fn accept(&mut self, now: u64, segment: Segment) -> Accept
         requires moment { now < 2 ^ 62 }
         requires offered { MayCome segment }
-        requires ready { IsReady now self.old }
+        requires none_whole { HasNoWhole self.old }
         // Whatever buffers the table stands for, the answer is theirs, and it stands for those after the segment.
         ensures answered { (buffers : List (Buffer Extent)) → Stands self.old buffers
             → said result ≡ buffer.answer self.old.limits now (arrival_of segment) buffers }
@@ -219,7 +219,7 @@ impl Table {
         let from = segment.offset;
         let to = segment.end();
         match place {
-            Some(place) => !has_gap(self.runs.group(place), from, to),
+            Some(place) => !has_gap(&self.runs.group(place), from, to),
             None => from == to,
         }
     }
@@ -255,7 +255,7 @@ impl Table {
         self.runs.fill(place, from, to, index);
         self.segments.push(segment);
         let slot = self.openings.slot_at(place);
-        if has_hole(self.runs.group(place), from, to, shape.data_len()) {
+        if has_hole(&self.runs.group(place), from, to, shape.data_len()) {
             Accept::Held
         } else {
             Accept::Whole(SlotNo(slot))

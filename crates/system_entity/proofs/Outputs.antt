@@ -82,6 +82,11 @@ all_done fresh actions others none h =
     let all : actions ≡ h.actions = h.appended ∙ ap (λ (start : List Action). start ++ h.actions) none in
     subst (λ (list : List Action). DoAll list others) (sym all) h.do_all
 
+pub none_done : (actions : List Action) (others : List locally.Action) → actions ≡ [] → DoAll actions others → others ≡ []
+none_done [] [] none h = refl
+none_done [] (other ∷ others) none h = absurd h
+none_done (action ∷ actions) others none h = absurd (cc)
+
 -- outputs that were appended to a fresh list, and this to another
 pub appends_fresh : (moment : ℕ) (fresh list before after : List Output) (others : List machine.Output) → fresh ≡ [] → after ≡ before ++ list
     → Appends moment None fresh list others → Appends moment None before after others

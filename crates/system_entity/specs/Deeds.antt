@@ -1,6 +1,5 @@
 -- What the steps of a system do, between its calls and what it gives out.
 use Rattle.std.specs.Prelude.{◌≡◌, ℕ, true, List, None}
-use Rattle.clnp_machine.specs.Reassembly.State.{IsReady}
 use Rattle.clnp_machine.specs.ClnpPlan.declared.ask.SendRefusal.{SendRefusal}
 use Rattle.clnp_machine.specs.ClnpPlan.declared.ask.SendRefusal.TheVariants.{NoMemory}
 use Rattle.clnp_machine.specs.ClnpPlan.declared.output.Output.{Output}
@@ -26,7 +25,6 @@ pub record IsAtWork (entity : SystemEntityState) : Type 0 where
   pub spent : entity.spent ≡ true
   pub state : SystemState
   pub parts : PartsStand entity state
-  pub ready : IsReady entity.moment entity.local.table
 
 -- a deed was done at a moment: the entity stands for the state after it, and exactly its outputs were appended
 pub record DoesDeed (moment : ℕ) (deed : Deed) (new : SystemEntityState) (before after : List Output) : Type 0 where

@@ -1,7 +1,6 @@
 -- What the entity of a system stands for.
 use Rattle.std.specs.Prelude.{◌≡◌, ℕ, ◌<◌, ◌≤◌, ◌^◌, false, true, length}
 use Rattle.std.specs.List.{AllByRecursion}
-use Rattle.clnp_machine.specs.Reassembly.State.{IsReady}
 use Rattle.clnp_machine.specs.ClnpPlan.Configuration.{IsPort}
 use Rattle.clnp_machine.specs.ClnpPlan.declared.ask.SendRefusal.{SendRefusal}
 use Rattle.clnp_machine.specs.ClnpPlan.declared.ask.SendRefusal.TheVariants.{NoMemory}
@@ -30,18 +29,17 @@ pub record Stands (entity : SystemEntityState) (s : SystemState) : Type 0 where
   pub not_spent : entity.spent ≡ false
   pub parts : PartsStand entity s
 
--- What is always so of it: while it isn't spent, it stands for some state, no buffer is due at its moment and none is whole.
-pub record IsReadyFor (entity : SystemEntityState) : Type 0 where
+-- What is always so of it: while it isn't spent, it stands for some state.
+pub record StandsForSome (entity : SystemEntityState) : Type 0 where
   pub state : SystemState
   pub stands : Stands entity state
-  pub ready : IsReady entity.moment entity.local.table
 
 -- and that each of its ports takes frames that are long enough, and that it has as many of them as it had at its start
 pub record IsSound (entity : SystemEntityState) : Type 0 where
   pub moment : entity.moment < 2 ^ 62
   pub wide : AllByRecursion IsPort entity.ports
   pub number : length entity.ports ≡ length entity.local.configuration.ports
-  pub ready : entity.spent ≡ false → IsReadyFor entity
+  pub some : entity.spent ≡ false → StandsForSome entity
 
 -- a refused entity is as before, but spent where memory was refused
 abbrev pub IsLeftBy : SendRefusal → SystemEntityState → SystemEntityState → Type 0

@@ -1,7 +1,5 @@
 //! Receipt: PDUs for the system's own addresses, and reassembly buffers whose time has ended.
 ghost use Rattle.std.specs.Prelude.{◌≡◌, ◌≤◌, ◌<◌, ◌+◌, ◌^◌, ◌++◌, ◌∷◌, [], ℕ, List, IfOk, OnOk, OnErr, length};
-ghost use Rattle.clnp_machine.specs.ClnpOptions.Parameter.{Parameter};
-ghost use Rattle.clnp_machine.specs.PduHeader.declared.kind.Kind.{Kind as KindOf};
 ghost use Rattle.clnp_machine.specs.PduHeader.Grammar.{BeginsWith};
 ghost use Rattle.clnp_machine.specs.PduHeader.Spelling.{type_code};
 ghost use Rattle.clnp_machine.specs.PduHeader.Value.{PduValue};
@@ -10,18 +8,16 @@ ghost use Rattle.clnp_machine.specs.Unit.{Packet, IsCarriable, wire};
 ghost use Rattle.clnp_machine.specs.System.{SystemState};
 ghost use Rattle.clnp_machine.specs.Local as locally;
 ghost use Rattle.local_entity.specs.Local.{Appends, Stands};
-ghost use Rattle.local_entity.specs.Receipt.{purpose_of, segment_in, segment_part};
+ghost use Rattle.local_entity.specs.Receipt.{segment_in, segment_part};
 
 use super::Local;
 use crate::action::Action;
-use crate::purpose::{Purpose, purpose_in};
+use crate::purpose::purpose_in;
 use clnp_machine::clnp_base::{NoMemory, Octets};
 use clnp_machine::clnp_views::Frame;
 use clnp_machine::laws as machine_laws;
-use clnp_machine::nsap::Address;
 use clnp_machine::pdu_header::{Kind, Pdu, SegPart, decode, laws};
 use clnp_machine::reassembly::{Key, Segment, Shape};
-use clnp_machine::system_plan::Note;
 use std::alloc::Global;
 
 mod expiry;
@@ -45,7 +41,6 @@ impl Local {
         requires moment { now < 2 ^ 62 }
         requires few { length frame.now ≤ 70000 }
         requires alive { (v : PduValue) × (rest : List ℕ) × BeginsWith frame.now v rest × (1 ≤ v.lifetime) }
-        requires ready { IsReady now self.old.table }
         ensures stands { OnOk result ((s : SystemState) (p : Packet) (following : List ℕ) → Stands self.old s → s.moment ≡ now
             → IsCarriable p → frame.now ≡ wire p ++ following → Stands self.new (locally.receive s p following).after) }
         ensures actions { OnOk result ((s : SystemState) (p : Packet) (following : List ℕ) → Stands self.old s → s.moment ≡ now
@@ -54,7 +49,7 @@ impl Local {
         ensures same { OnErr result (self.new ≡ self.old) }
         ensures none { OnErr result (out.new.items ≡ out.old.items) }
         ensures config { self.new.configuration ≡ self.old.configuration }
-        ensures ready { IsReady now self.new.table }
+        ensures ready { IsReady now self.old.table → IsReady now self.new.table }
     {
         laws::one_value();
         machine_laws::a_frame_carries_one_packet();
@@ -64,58 +59,12 @@ impl Local {
         let purpose = purpose_in(&pdu);
         let Some(part) = segment_part(pdu.seg, pdu.more) else {
             let octets = Octets::copy(alloc, pdu.body)?;
-            return self.hand_up(alloc, now, purpose, pdu.from, pdu.to, octets, out);
+            return self
+                .endpoint
+                .hand_up(alloc, now, purpose, pdu.from, pdu.to, octets, out);
         };
         let segment = segment_in(frame, &pdu, part)?;
         self.offer(alloc, now, segment, purpose, frame, out)
-    }
-
-    /// Hands the data of a whole unit up: an error report tells its reason and place, an echo request is answered, and an echo
-    /// reply is taken for the request that it answers.
-    ///
-    /// # Errors
-    ///
-    /// `NoMemory`: nothing changes then.
-    fn hand_up(
-        &mut self,
-        alloc: Global,
-        now: u64,
-        purpose: Purpose,
-        from: Address,
-        to: Address,
-        octets: Octets,
-        out: &mut Vec<Action>,
-    ) -> Result<(), NoMemory>
-        requires moment { now < 2 ^ 62 }
-        ensures stands { OnOk result ((s : SystemState) (kind : KindOf) (options : List Parameter) → Stands self.old s
-            → s.moment ≡ now → purpose ≡ purpose_of kind options
-            → Stands self.new (locally.hand_up s kind from to octets options).after) }
-        ensures actions { OnOk result ((s : SystemState) (kind : KindOf) (options : List Parameter) → Stands self.old s
-            → s.moment ≡ now → purpose ≡ purpose_of kind options
-            → Appends out.old.items out.new.items (locally.hand_up s kind from to octets options).actions) }
-        ensures same { OnErr result (self.new ≡ self.old) }
-        ensures none { OnErr result (out.new.items ≡ out.old.items) }
-        ensures config { self.new.configuration ≡ self.old.configuration }
-        ensures table { self.new.table ≡ self.old.table }
-    {
-        match purpose {
-            Purpose::Data => {
-                out.push(Action::Note(Note::Got { from, to, octets }))?;
-                Ok(())
-            }
-            Purpose::Report { reason, place } => {
-                out.push(Action::Note(Note::Report {
-                    from,
-                    to,
-                    reason,
-                    place,
-                    octets,
-                }))?;
-                Ok(())
-            }
-            Purpose::Request => self.reply(alloc, now, from, to, octets.as_bytes(), out),
-            Purpose::Reply => self.take_reply(from, to, octets.as_bytes(), out),
-        }
     }
 }
 

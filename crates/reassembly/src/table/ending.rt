@@ -17,7 +17,7 @@ ghost use Rattle.reassembly.specs.State.{IsAt, IsReady, IsWholeSlot, Names, Slot
 
 use super::{Expired, SlotNo, Table};
 use crate::openings::Openings;
-use crate::runs::{Run, Runs};
+use crate::runs::{Group, Runs};
 use crate::segment::{Key, Segment};
 use crate::segments::{Segments, last_of};
 use clnp_views::View;
@@ -106,27 +106,25 @@ impl Table {
 }
 
 /// Takes the segments out that fill some runs, and gives the PDU of the one that fills the first place.
-fn take_all(segments: &mut Segments, runs: &[Run]) -> Option<View>
-    requires { AllByRecursion (λ run. IsWithin (length segments.old.entries) run.by) runs.now }
-    ensures entries { segments.new.entries ≡ emptied_by runs.now segments.old.entries }
-    ensures first { result ≡ option_map (λ segment. segment.pdu) (segment_by (first_by runs.now) segments.old.entries) }
+fn take_all(segments: &mut Segments, mut runs: Group<'_>) -> Option<View>
+    requires { AllByRecursion (λ run. IsWithin (length segments.old.entries) run.by) runs }
+    ensures entries { segments.new.entries ≡ emptied_by runs.entry segments.old.entries }
+    ensures first { result ≡ option_map (λ segment. segment.pdu) (segment_by (first_by runs.entry) segments.old.entries) }
     ensures room { segments.new.room ≡ segments.old.room }
 {
-    let Some((first, others)) = runs.split_first() else {
-        return None;
-    };
+    let first = runs.next()?;
     let taken = segments.take(first.by);
-    take_each(segments, others);
+    take_each(segments, runs);
     Some(taken?.pdu)
 }
 
 /// Takes the segments out that fill some runs.
-fn take_each(segments: &mut Segments, runs: &[Run])
-    requires { AllByRecursion (λ run. IsWithin (length segments.old.entries) run.by) runs.now }
-    ensures entries { segments.new.entries ≡ emptied_by runs.now segments.old.entries }
+fn take_each(segments: &mut Segments, mut runs: Group<'_>)
+    requires { AllByRecursion (λ run. IsWithin (length segments.old.entries) run.by) runs }
+    ensures entries { segments.new.entries ≡ emptied_by runs.entry segments.old.entries }
     ensures room { segments.new.room ≡ segments.old.room }
 {
-    for run in runs {
+    while let Some(run) = runs.next() {
         segments.take(run.by);
     }
 }

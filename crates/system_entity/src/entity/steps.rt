@@ -6,7 +6,6 @@ ghost use Rattle.clnp_machine.specs.ClnpOptions.Parameter.{parameters};
 ghost use Rattle.clnp_machine.specs.PduHeader.Grammar.{BeginsWith, is_report};
 ghost use Rattle.clnp_machine.specs.PduHeader.Rules.{octet};
 ghost use Rattle.clnp_machine.specs.PduHeader.Value.{PduValue};
-ghost use Rattle.clnp_machine.specs.Reassembly.State.{IsReady};
 ghost use Rattle.clnp_machine.specs.ClnpPlan.Configuration.{IsPort};
 ghost use Rattle.clnp_machine.specs.Content.{Content, IsCarried, Labelled, frame_of};
 ghost use Rattle.clnp_machine.specs.Given.{Appends};
@@ -59,7 +58,6 @@ impl SystemEntity {
         ensures outputs { OnOk result ((s : SystemState) → PartsStand self.old s
             → Appends now None out.old.items out.new.items (moment_comes s now).outputs) }
         ensures moment { OnOk result (self.new.moment ≡ now) }
-        ensures ready { OnOk result (IsReady now self.new.local.table) }
         ensures none { OnErr result (out.new.items ≡ out.old.items) }
         ensures spent { self.new.spent ≡ self.old.spent }
         ensures congested { self.new.congested ≡ self.old.congested }
@@ -67,12 +65,17 @@ impl SystemEntity {
     {
         laws::deeds_are_of_their_moment();
         laws::hellos_leave_the_rest();
-        let mut outputs = Vec::new(alloc);
         let mut actions = Vec::new(alloc);
         self.local.tick(alloc, now, &mut actions)?;
         self.moment = now;
-        self.give_out(actions, &mut outputs)?;
         let ports = self.port_count();
+        // Most ticks end no buffer: nothing is gathered then.
+        if actions.is_empty() {
+            self.esis.tick(self.local.config(), ports, now, out)?;
+            return Ok(());
+        }
+        let mut outputs = Vec::new(alloc);
+        self.give_out(actions, &mut outputs)?;
         self.esis
             .tick(self.local.config(), ports, now, &mut outputs)?;
         out.append(&mut outputs)?;
@@ -94,7 +97,6 @@ impl SystemEntity {
             → frame_of content ≡ frame.now → ComesOf arrival s neighbour group content self.new out.old.items out.new.items) }
         ensures left { IfOk result (λ arrival. LeavesAsItWas arrival self.old self.new out.old.items out.new.items) }
         ensures pdu { IfOk result (λ arrival. TellsPdu arrival frame.now) }
-        ensures ready { OnOk result (IsReady self.new.moment self.new.local.table) }
         ensures none { OnErr result (out.new.items ≡ out.old.items) }
         ensures moment { self.new.moment ≡ self.old.moment }
         ensures spent { self.new.spent ≡ self.old.spent }
@@ -135,7 +137,6 @@ impl SystemEntity {
             → ComesOf arrival s neighbour group (Labelled p following) self.new out.old.items out.new.items) }
         ensures left { IfOk result (λ arrival. LeavesAsItWas arrival self.old self.new out.old.items out.new.items) }
         ensures pdu { IfOk result (λ arrival. TellsPdu arrival frame.now) }
-        ensures ready { OnOk result (IsReady self.new.moment self.new.local.table) }
         ensures none { OnErr result (out.new.items ≡ out.old.items) }
         ensures moment { self.new.moment ≡ self.old.moment }
         ensures spent { self.new.spent ≡ self.old.spent }
@@ -174,7 +175,6 @@ impl SystemEntity {
             → frame.now ≡ wire p ++ following → (p.lifetime == 0) ≡ false → is_own s p.unit.destination ≡ true
             → Appends s.moment None out.old.items out.new.items
             (content_comes s neighbour group (Labelled p following)).outputs) }
-        ensures ready { OnOk result (IsReady self.new.moment self.new.local.table) }
         ensures none { OnErr result (out.new.items ≡ out.old.items) }
         ensures moment { self.new.moment ≡ self.old.moment }
         ensures spent { self.new.spent ≡ self.old.spent }
@@ -227,7 +227,6 @@ impl SystemEntity {
         ensures outputs { OnOk result ((s : SystemState) (group : Bool) (content : Content) → PartsStand self.old s → IsCarried content
             → frame_of content ≡ frame.now
             → Appends s.moment None out.old.items out.new.items (content_comes s neighbour group content).outputs) }
-        ensures ready { OnOk result (IsReady self.new.moment self.new.local.table) }
         ensures none { OnErr result (out.new.items ≡ out.old.items) }
         ensures moment { self.new.moment ≡ self.old.moment }
         ensures spent { self.new.spent ≡ self.old.spent }
@@ -267,7 +266,6 @@ impl SystemEntity {
             → frame_of content ≡ frame.now
             → Appends s.moment None out.old.items out.new.items
             (effect_of (locally.discard s content reason place)).outputs) }
-        ensures ready { OnOk result (IsReady self.new.moment self.new.local.table) }
         ensures none { OnErr result (out.new.items ≡ out.old.items) }
         ensures moment { self.new.moment ≡ self.old.moment }
         ensures spent { self.new.spent ≡ self.old.spent }
@@ -307,7 +305,6 @@ impl SystemEntity {
             → Appends s.moment None out.old.items out.new.items
             (effect_of (locally.make s kind from to body.now ask.now)).outputs) }
         ensures left { IfErr result (λ e. LeavesParts e self.old self.new) }
-        ensures ready { OnOk result (IsReady self.new.moment self.new.local.table) }
         ensures none { OnErr result (out.new.items ≡ out.old.items) }
         ensures moment { self.new.moment ≡ self.old.moment }
         ensures spent { self.new.spent ≡ self.old.spent }

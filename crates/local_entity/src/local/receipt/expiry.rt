@@ -3,7 +3,6 @@ ghost use Rattle.std.specs.Prelude.{◌≡◌, ◌<◌, ◌≤◌, ◌+◌, ◌^
 ghost use Rattle.clnp_machine.specs.ClnpViews.Extent.{Extent, seen};
 ghost use Rattle.clnp_machine.specs.Reassembly.Buffer as buffer;
 ghost use Rattle.clnp_machine.specs.Reassembly.Buffer.{Buffer};
-ghost use Rattle.clnp_machine.specs.Reassembly.NoWhole.{HasNoWhole};
 ghost use Rattle.clnp_machine.specs.Reassembly.State as table;
 ghost use Rattle.clnp_machine.specs.Reassembly.State.{IsReady};
 ghost use Rattle.clnp_machine.specs.ClnpPlan.declared.note.Note.TheVariants.{Expired};
@@ -35,7 +34,7 @@ impl Local {
         ensures same { OnErr result (self.new ≡ self.old) }
         ensures none { OnErr result (out.new.items ≡ out.old.items) }
         ensures config { self.new.configuration ≡ self.old.configuration }
-        ensures ready { OnOk result (HasNoWhole self.old.table → IsReady now self.new.table) }
+        ensures ready { OnOk result (IsReady now self.new.table) }
     {
         let live = usize::from(self.table.live());
         // A buffer's end is noted, and perhaps a discard and its report, which is noted and sent.
@@ -91,6 +90,6 @@ impl Local {
             return;
         };
         let reason = Reason::LifetimeExpiredInReassembly.code();
-        self.discard_with_room(first, reason, 0, out);
+        self.endpoint.discard(first, reason, 0, out);
     }
 }

@@ -13,12 +13,14 @@ ghost use Rattle.clnp_machine.specs.Unit.{Packet};
 ghost use Rattle.clnp_machine.specs.Content.{Content, frame_of};
 ghost use Rattle.clnp_machine.specs.System.{SystemState};
 ghost use Rattle.clnp_machine.specs.Local as locally;
+ghost use Rattle.local_entity.specs.Endpoint.{StandsWith};
 ghost use Rattle.local_entity.specs.Local.{Appends, Stands};
 ghost use Rattle.local_entity.specs.Receipt.{AreDataAt, IsShown, purpose_of, with_answer};
 
 use super::super::Local;
 use super::noting::note;
 use crate::action::Action;
+use crate::endpoint::Endpoint;
 use crate::purpose::Purpose;
 use clnp_machine::clnp_base::{NoMemory, Octets};
 use clnp_machine::clnp_options::Reason;
@@ -45,7 +47,6 @@ impl Local {
     ) -> Result<(), NoMemory>
         requires moment { now < 2 ^ 62 }
         requires offered { MayCome segment }
-        requires ready { IsReady now self.old.table }
         ensures stands { OnOk result ((s : SystemState) (content : Content) (arrival : Arrival Packet) → Stands self.old s
             → s.moment ≡ now → IsShown segment arrival → frame_of content ≡ frame.now
             → purpose ≡ purpose_of arrival.carried.unit.kind arrival.carried.options
@@ -57,7 +58,7 @@ impl Local {
         ensures same { OnErr result (self.new ≡ self.old) }
         ensures none { OnErr result (out.new.items ≡ out.old.items) }
         ensures config { self.new.configuration ≡ self.old.configuration }
-        ensures ready { IsReady now self.new.table }
+        ensures ready { IsReady now self.old.table → IsReady now self.new.table }
     {
         let frame = frame.view()?;
         let Ok(()) = out.reserve(4) else {
@@ -68,7 +69,11 @@ impl Local {
         let len = data_len(segment.shape);
         match self.table.accept(now, segment) {
             Accept::Whole(slot) => {
-                let Ok(()) = self.hand_up_whole(alloc, now, slot, len, purpose, key, out) else {
+                let table = &self.table;
+                let endpoint = &mut self.endpoint;
+                let Ok(()) = hand_up_whole(
+                    endpoint, alloc, now, table, slot, len, purpose, key, out,
+                ) else {
                     self.table.undo(slot);
                     return Err(NoMemory);
                 };
@@ -77,40 +82,6 @@ impl Local {
             answer => self.tell(answer, key.id, offset, frame, out),
         }
         Ok(())
-    }
-
-    /// Hands up the data of the whole unit at a slot; room for `len` octets is made first. The unit's buffer stays.
-    ///
-    /// # Errors
-    ///
-    /// `NoMemory`: nothing changes then.
-    fn hand_up_whole(
-        &mut self,
-        alloc: Global,
-        now: u64,
-        slot: SlotNo,
-        len: usize,
-        purpose: Purpose,
-        key: Key,
-        out: &mut Vec<Action>,
-    ) -> Result<(), NoMemory>
-        requires moment { now < 2 ^ 62 }
-        requires whole { IsWholeSlot self.old.table slot.0 }
-        ensures stands { OnOk result ((s : SystemState) (kind : KindOf) (options : List Parameter) (octets : List ℕ)
-            → Stands self.old s → s.moment ≡ now → purpose ≡ purpose_of kind options
-            → AreDataAt self.old.table slot.0 octets
-            → Stands self.new (locally.hand_up s kind key.from key.to octets options).after) }
-        ensures actions { OnOk result ((s : SystemState) (kind : KindOf) (options : List Parameter) (octets : List ℕ)
-            → Stands self.old s → s.moment ≡ now → purpose ≡ purpose_of kind options
-            → AreDataAt self.old.table slot.0 octets
-            → Appends out.old.items out.new.items (locally.hand_up s kind key.from key.to octets options).actions) }
-        ensures same { OnErr result (self.new ≡ self.old) }
-        ensures none { OnErr result (out.new.items ≡ out.old.items) }
-        ensures config { self.new.configuration ≡ self.old.configuration }
-        ensures table { self.new.table ≡ self.old.table }
-    {
-        let octets = joined(alloc, &self.table, slot, len)?;
-        self.hand_up(alloc, now, purpose, key.from, key.to, octets, out)
     }
 
     /// Appends what is noted of a segment that came in this frame and doesn't make its unit whole, once it is kept or not: it
@@ -163,8 +134,42 @@ impl Local {
         ensures table { self.new.table ≡ self.old.table }
     {
         note(out, why);
-        self.discard_with_room(frame, reason.code(), 0, out);
+        self.endpoint.discard(frame, reason.code(), 0, out);
     }
+}
+
+/// Hands up the data of the whole unit at a slot of a table; room for `len` octets is made first. The unit's buffer stays.
+///
+/// # Errors
+///
+/// `NoMemory`: nothing changes then.
+fn hand_up_whole(
+    endpoint: &mut Endpoint,
+    alloc: Global,
+    now: u64,
+    table: &Table,
+    slot: SlotNo,
+    len: usize,
+    purpose: Purpose,
+    key: Key,
+    out: &mut Vec<Action>,
+) -> Result<(), NoMemory>
+    requires moment { now < 2 ^ 62 }
+    requires whole { IsWholeSlot table.now slot.0 }
+    ensures stands { OnOk result ((s : SystemState) (kind : KindOf) (options : List Parameter) (octets : List ℕ)
+        → StandsWith table.now endpoint.old s → s.moment ≡ now → purpose ≡ purpose_of kind options
+        → AreDataAt table.now slot.0 octets
+        → StandsWith table.now endpoint.new (locally.hand_up s kind key.from key.to octets options).after) }
+    ensures actions { OnOk result ((s : SystemState) (kind : KindOf) (options : List Parameter) (octets : List ℕ)
+        → StandsWith table.now endpoint.old s → s.moment ≡ now → purpose ≡ purpose_of kind options
+        → AreDataAt table.now slot.0 octets
+        → Appends out.old.items out.new.items (locally.hand_up s kind key.from key.to octets options).actions) }
+    ensures same { OnErr result (endpoint.new ≡ endpoint.old) }
+    ensures none { OnErr result (out.new.items ≡ out.old.items) }
+    ensures config { endpoint.new.config ≡ endpoint.old.config }
+{
+    let octets = joined(alloc, table, slot, len)?;
+    endpoint.hand_up(alloc, now, purpose, key.from, key.to, octets, out)
 }
 
 /// How many octets of data a unit of this shape has.

@@ -1,12 +1,14 @@
--- No run before or behind those between the places is such a hole.
-use Rattle.std.proofs.Common.{◌∙◌}
-use Rattle.reassembly.proofs.Searching.{front_order, gap_between}
+-- Both parts of the runs are in order.
+use Rattle.std.proofs.Common.{sym, subst}
+use Rattle.reassembly.specs.Pages.{on_pages}
+use Rattle.reassembly.specs.Runs.{AreInOrder}
+use Rattle.reassembly.proofs.Paged.{first_order, rest_order}
 use Rattle.reassembly.proofs.runs.has_gap.Goals as goal
 
-pub ended_by-first-requires : goal.ended_by-first-requires
-ended_by-first-requires c = front_order c.args.runs.now c.begun_before-last.result c.requires
+pub has_gap-requires : goal.has_gap-requires
+has_gap-requires c =
+    first_order c.runs.inside.first.now (on_pages c.runs.inside.others.now) (subst AreInOrder (sym c.runs.view_is) c.requires)
 
-pub returns : goal.returns
-returns c =
-    c.is_gap_among.ensures ∙ gap_between c.args.from c.args.to c.ended_by-first.result c.begun_before-last.result c.args.runs.now c.requires
-    c.begun_before-last.ensures.within c.ended_by-first.ensures.within c.ended_by-first.ensures.ended c.begun_before-last.ensures.others
+pub have_gap-requires : goal.have_gap-requires
+have_gap-requires c =
+    rest_order c.runs.inside.first.now (on_pages c.runs.inside.others.now) (subst AreInOrder (sym c.runs.view_is) c.requires)

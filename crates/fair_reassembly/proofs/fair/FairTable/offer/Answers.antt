@@ -59,12 +59,15 @@ accept-accept-requires-clause-offered c =
     subst MayCome (sym (segment_in_frame c at.In-Ok))
     (may_come c.args.frame.frame (pdu_value c.in-Ok.pdu) c.in-Ok.pdu.rest.now (part_value c.in-Some.part) (begins at.In-Ok) (is_part c) c.requires.few alive)
 
-pub accept-accept-requires-clause-ready : goal.accept-accept-requires-clause-ready
-accept-accept-requires-clause-ready c =
-    let at = goal.at.accept-accept-requires-clause-ready c in
+pub accept-accept-requires-clause-none_whole : goal.accept-accept-requires-clause-none_whole
+accept-accept-requires-clause-none_whole c =
+    let at = goal.at.accept-accept-requires-clause-none_whole c in
     let v = value at.In-Ok in
     let place = c.place-table.ensures.place ∙ ap (λ (w : PduValue). place_of c.args.self.now.sources w.source) v in
-    subst (λ (n : ℕ). At c.args.self.now n (IsReady c.args.now)) (sym place) c.requires.ready
+    let ready = subst (λ (n : ℕ). At c.args.self.now n (IsReady c.args.now)) (sym place) c.requires.ready in
+    λ table there.
+    let at_it = ready table there in
+    record { buffers = at_it.buffers; stands = at_it.stands; none_whole = at_it.ready.none_whole }
 
 pub returns : goal.returns
 returns c =

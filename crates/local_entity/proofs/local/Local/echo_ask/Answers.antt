@@ -1,8 +1,8 @@
-use Rattle.std.proofs.Common.{sym, subst, ℕ, false, List}
-use Rattle.clnp_machine.specs.ClnpOptions.Grammar.{FitsKind}
-use Rattle.clnp_machine.specs.ClnpOptions.Parameter.{parameters}
+use Rattle.std.proofs.Common.{sym, subst}
+use Rattle.local_entity.specs.State.{EntityState}
+use Rattle.local_entity.specs.Local.{Stands}
 use Rattle.local_entity.proofs.local.Local.echo_ask.Goals as goal
-use Rattle.clnp_machine.proofs.ClnpOptions.Agree.{none_fit}
 
-pub returns-clause-options : goal.returns-clause-options
-returns-clause-options c = subst (λ (octets : List ℕ). FitsKind false (parameters octets)) (sym c.new.ensures) none_fit
+pub returns-clause-value : goal.returns-clause-value
+returns-clause-value c = λ s stands.
+    c.echo_ask.ensures.value c.self.inside.table s (subst (λ (e : EntityState). Stands e s) (sym c.self.view_is) stands)

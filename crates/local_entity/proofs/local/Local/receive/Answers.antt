@@ -9,6 +9,8 @@ use Rattle.clnp_machine.specs.Reassembly.declared.segment.Segment.{Segment}
 use Rattle.clnp_machine.specs.Reassembly.Offered.{MayCome}
 use Rattle.clnp_machine.specs.Content.{Labelled}
 use Rattle.clnp_machine.specs.Local.{Deed, hand_up, offered}
+use Rattle.local_entity.specs.State.{EntityState}
+use Rattle.local_entity.specs.Endpoint.{StandsWith}
 use Rattle.local_entity.specs.Local.{Appends, Stands}
 use Rattle.local_entity.specs.Receipt.{IsShown, purpose_of}
 use Rattle.local_entity.proofs.Receiving.{is_shown, may_come, receives_segment, receives_whole, value_is}
@@ -27,10 +29,11 @@ returns-in_default-segment_part-clause-stands c =
     (λ handed s p following stands moment carriable split.
     let pdu = c.in-Ok.pdu in
     let e = value_is c.a_frame_carries_one_packet.ensures c.bytes.result.now (pdu_value pdu) pdu.rest.now c.in-Ok.ensures.found p following carriable (c.bytes.ensures ∙ split) in
-    subst (λ (deed : Deed). Stands c.hand_up.new.self deed.after)
+    let here = subst (λ (e : EntityState). Stands e s) (sym c.self.view_is) stands in
+    subst (λ (deed : Deed). StandsWith c.self.inside.table c.hand_up.new.self deed.after)
     (ap (λ (octets : List ℕ). hand_up s pdu.kind pdu.from pdu.to octets (parameters pdu.options.now)) c.in_ok-octets.ensures
     ∙ sym (receives_whole pdu s p following e (sym c.segment_part.ensures ∙ c.in_default-segment_part.is)))
-    (handed s pdu.kind (parameters pdu.options.now) stands moment c.purpose_in-purpose.ensures))
+    (handed c.self.inside.table s pdu.kind (parameters pdu.options.now) here moment c.purpose_in-purpose.ensures))
     c.hand_up.ensures.stands
 
 pub returns-in_default-segment_part-clause-actions :
@@ -40,10 +43,11 @@ returns-in_default-segment_part-clause-actions c =
     (λ handed s p following stands moment carriable split.
     let pdu = c.in-Ok.pdu in
     let e = value_is c.a_frame_carries_one_packet.ensures c.bytes.result.now (pdu_value pdu) pdu.rest.now c.in-Ok.ensures.found p following carriable (c.bytes.ensures ∙ split) in
+    let here = subst (λ (e : EntityState). Stands e s) (sym c.self.view_is) stands in
     subst (λ (deed : Deed). Appends c.args.out.now.items c.hand_up.new.out.items deed.actions)
     (ap (λ (octets : List ℕ). hand_up s pdu.kind pdu.from pdu.to octets (parameters pdu.options.now)) c.in_ok-octets.ensures
     ∙ sym (receives_whole pdu s p following e (sym c.segment_part.ensures ∙ c.in_default-segment_part.is)))
-    (handed s pdu.kind (parameters pdu.options.now) stands moment c.purpose_in-purpose.ensures))
+    (handed c.self.inside.table s pdu.kind (parameters pdu.options.now) here moment c.purpose_in-purpose.ensures))
     c.hand_up.ensures.actions
 
 pub segment_in-requires-clause-head : goal.segment_in-requires-clause-head

@@ -2,6 +2,7 @@
 use Rattle.std.proofs.Common.{◌≡◌, ◌+◌, ℕ, List, refl, sym, ap, ◌∙◌, subst, arith}
 use Rattle.clnp_machine.specs.ClnpViews.Extent.{Extent}
 use Rattle.clnp_machine.specs.Reassembly.Buffer.{Buffer}
+use Rattle.clnp_machine.specs.Reassembly.NoWhole.{HasNoWhole}
 use Rattle.clnp_machine.specs.Reassembly.State as table
 use Rattle.clnp_machine.specs.Local.{expire}
 use Rattle.local_entity.specs.State.{EntityState}
@@ -11,7 +12,7 @@ use Rattle.local_entity.proofs.local.Local.tick.Goals as goal
 pub loop-init : goal.loop-init
 loop-init c = record {
   done = after_none c.args.self.now c.args.out.now.items c.reserve.new.self.items c.args.now c.reserve.ensures.items;
-  left = λ none_whole. left_first c.args.self.now.table c.from-live.result none_whole (λ buffers stands. c.from-live.ensures ∙ c.live.ensures.live buffers (subst (λ (e : EntityState). table.Stands e.table buffers) (sym c.self.view_is) stands));
+  left = left_first c.args.self.now.table c.from-live.result (subst (λ (e : EntityState). HasNoWhole e.table) c.self.view_is c.self.invariant.none_whole) (λ buffers stands. c.from-live.ensures ∙ c.live.ensures.live buffers (subst (λ (e : EntityState). table.Stands e.table buffers) (sym c.self.view_is) stands));
   room = omega (arith, c.in-Ok.ensures.ok);
   config = refl;
 }
@@ -42,16 +43,15 @@ returns-then-not-give_up-clause-actions c =
     (λ buffers stands. c.from-live.ensures ∙ c.live.ensures.live buffers (subst (λ (e : EntityState). table.Stands e.table buffers) (sym c.self.view_is) stands))
 
 pub returns-then-not-give_up-clause-ready : goal.returns-then-not-give_up-clause-ready
-returns-then-not-give_up-clause-ready c = λ none_whole.
-    ready_early c.loop.self.table c.give_up.new.self.table c.args.now c.loop.counter c.from-live.result (c.loop.invariant.left none_whole)
+returns-then-not-give_up-clause-ready c =
+    ready_early c.loop.self.table c.give_up.new.self.table c.args.now c.loop.counter c.from-live.result c.loop.invariant.left
     c.if-not-give_up.ensures.given
 
 pub loop-preserved : goal.loop-preserved
 loop-preserved c = record {
   done = after_more c.args.self.now c.loop.self c.give_up.new.self c.args.out.now.items c.loop.out.items c.give_up.new.out.items c.args.now c.loop.counter
       c.loop.invariant.done c.give_up.ensures.stands c.give_up.ensures.actions;
-  left = λ none_whole.
-      left_more c.loop.self.table c.give_up.new.self.table c.args.now c.loop.counter c.from-live.result (c.loop.invariant.left none_whole)
+  left = left_more c.loop.self.table c.give_up.new.self.table c.args.now c.loop.counter c.from-live.result c.loop.invariant.left
       c.if-not-give_up.ensures.given;
   room = omega (arith, c.loop.invariant.room, c.give_up.ensures.len, c.give_up.ensures.capacity);
   config = c.give_up.ensures.config ∙ c.loop.invariant.config;
@@ -70,6 +70,6 @@ returns-clause-actions c =
     (λ buffers stands. c.from-live.ensures ∙ c.live.ensures.live buffers (subst (λ (e : EntityState). table.Stands e.table buffers) (sym c.self.view_is) stands))
 
 pub returns-clause-ready : goal.returns-clause-ready
-returns-clause-ready c = λ none_whole.
+returns-clause-ready c =
     let e : c.loop.counter ≡ c.from-live.result = omega arith in
-    ready_at_end c.loop.self.table c.args.now c.from-live.result (subst (λ (n : ℕ). IsLeft c.loop.self.table n c.from-live.result) e (c.loop.invariant.left none_whole))
+    ready_at_end c.loop.self.table c.args.now c.from-live.result (subst (λ (n : ℕ). IsLeft c.loop.self.table n c.from-live.result) e c.loop.invariant.left)

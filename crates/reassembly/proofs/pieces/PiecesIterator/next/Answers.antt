@@ -25,13 +25,13 @@ use Rattle.reassembly.proofs.pieces.PiecesIterator.next.Goals as goal
 pub returns-in_default-by-clause-steps : goal.returns-in_default-by-clause-steps
 returns-in_default-by-clause-steps c =
     let p = c.self.inside in
-    let run = c.in-Some.run'.now in
-    let rest = c.in-Some.rest.now in
-    let runs_are : p.runs.now ≡ run ∷ rest = c.in-Some.ensures.cases.0 in
+    let run = c.in-Some.run' in
+    let rest = c.next.new.self in
+    let runs_are : p.runs ≡ run ∷ rest = c.in-Some.ensures in
     let joined : AreJoined p.place p.end (run ∷ rest) = subst (AreJoined p.place p.end) runs_are c.self.invariant.3 in
     let order = joined_order run.to p.end rest joined.1.1 in
     let on : p.place < run.to = omega (arith, joined.0, joined.1.0) in
-    let none : filler p.place p.runs.now ≡ None = ap (filler p.place) runs_are ∙ (rw (have_from p.place run (omega (arith, joined.0)) on) c.in_default-by.is) in
+    let none : filler p.place p.runs ≡ None = ap (filler p.place) runs_are ∙ (rw (have_from p.place run (omega (arith, joined.0)) on) c.in_default-by.is) in
     let lacks = covered-giver p.key p.place p.entries.now ∙ ap is_some (sym (c.self.invariant.4 p.place (omega arith) (omega (arith, on, order))) ∙ none) in
     let covered = each_covered (arrivals_of p.key (present p.entries.now)) p.place (p.end - p.place) p.place c.self.invariant.2 (omega arith) (omega (arith, on, order)) in
     absurd (both_ways (is_covered (arrivals_of p.key (present p.entries.now)) p.place) lacks covered)
@@ -39,9 +39,9 @@ returns-in_default-by-clause-steps c =
 pub offset_bounds-self-inside-from : goal.offset_bounds-self-inside-from
 offset_bounds-self-inside-from c =
     let p = c.self.inside in
-    let run = c.in-Some.run'.now in
-    let rest = c.in-Some.rest.now in
-    let runs_are : p.runs.now ≡ run ∷ rest = c.in-Some.ensures.cases.0 in
+    let run = c.in-Some.run' in
+    let rest = c.next.new.self in
+    let runs_are : p.runs ≡ run ∷ rest = c.in-Some.ensures in
     let joined : AreJoined p.place p.end (run ∷ rest) = subst (AreJoined p.place p.end) runs_are c.self.invariant.3 in
     let order = joined_order run.to p.end rest joined.1.1 in
     let first = λ (at : ℕ) (low : p.place ≤ at) (high : at < run.to).
@@ -55,9 +55,9 @@ offset_bounds-self-inside-from c =
 pub bounds-self-inside-from : goal.bounds-self-inside-from
 bounds-self-inside-from c =
     let p = c.self.inside in
-    let run = c.in-Some.run'.now in
-    let rest = c.in-Some.rest.now in
-    let runs_are : p.runs.now ≡ run ∷ rest = c.in-Some.ensures.cases.0 in
+    let run = c.in-Some.run' in
+    let rest = c.next.new.self in
+    let runs_are : p.runs ≡ run ∷ rest = c.in-Some.ensures in
     let joined : AreJoined p.place p.end (run ∷ rest) = subst (AreJoined p.place p.end) runs_are c.self.invariant.3 in
     let order = joined_order run.to p.end rest joined.1.1 in
     let first = λ (at : ℕ) (low : p.place ≤ at) (high : at < run.to).
@@ -70,9 +70,9 @@ bounds-self-inside-from c =
 pub octets-piece-requires-clause-came : goal.octets-piece-requires-clause-came
 octets-piece-requires-clause-came c =
     let p = c.self.inside in
-    let run = c.in-Some.run'.now in
-    let rest = c.in-Some.rest.now in
-    let runs_are : p.runs.now ≡ run ∷ rest = c.in-Some.ensures.cases.0 in
+    let run = c.in-Some.run' in
+    let rest = c.next.new.self in
+    let runs_are : p.runs ≡ run ∷ rest = c.in-Some.ensures in
     let joined : AreJoined p.place p.end (run ∷ rest) = subst (AreJoined p.place p.end) runs_are c.self.invariant.3 in
     let order = joined_order run.to p.end rest joined.1.1 in
     let first = λ (at : ℕ) (low : p.place ≤ at) (high : at < run.to).
@@ -90,9 +90,9 @@ octets-piece-requires-clause-came c =
 pub octets-piece-requires-clause-from : goal.octets-piece-requires-clause-from
 octets-piece-requires-clause-from c =
     let p = c.self.inside in
-    let run = c.in-Some.run'.now in
-    let rest = c.in-Some.rest.now in
-    let runs_are : p.runs.now ≡ run ∷ rest = c.in-Some.ensures.cases.0 in
+    let run = c.in-Some.run' in
+    let rest = c.next.new.self in
+    let runs_are : p.runs ≡ run ∷ rest = c.in-Some.ensures in
     let joined : AreJoined p.place p.end (run ∷ rest) = subst (AreJoined p.place p.end) runs_are c.self.invariant.3 in
     let order = joined_order run.to p.end rest joined.1.1 in
     let first = λ (at : ℕ) (low : p.place ≤ at) (high : at < run.to).
@@ -108,9 +108,9 @@ octets-piece-requires-clause-from c =
 pub octets-piece-requires-clause-to : goal.octets-piece-requires-clause-to
 octets-piece-requires-clause-to c =
     let p = c.self.inside in
-    let run = c.in-Some.run'.now in
-    let rest = c.in-Some.rest.now in
-    let runs_are : p.runs.now ≡ run ∷ rest = c.in-Some.ensures.cases.0 in
+    let run = c.in-Some.run' in
+    let rest = c.next.new.self in
+    let runs_are : p.runs ≡ run ∷ rest = c.in-Some.ensures in
     let joined : AreJoined p.place p.end (run ∷ rest) = subst (AreJoined p.place p.end) runs_are c.self.invariant.3 in
     let order = joined_order run.to p.end rest joined.1.1 in
     let first = λ (at : ℕ) (low : p.place ≤ at) (high : at < run.to).
@@ -124,12 +124,12 @@ octets-piece-requires-clause-to c =
     let last = does_give p.key (run.to - 1) segment ((first (run.to - 1) (omega (arith, on)) (omega (arith, on))).passes (Some segment) read) in
     omega (arith, last.to, c.from-2.ensures, c.from-len.ensures, joined.1.0)
 
-pub invariant_of-self : goal.invariant_of-self
-invariant_of-self c =
+pub invariant_of-self-2 : goal.invariant_of-self-2
+invariant_of-self-2 c =
     let p = c.self.inside in
-    let run = c.in-Some.run'.now in
-    let rest = c.in-Some.rest.now in
-    let runs_are : p.runs.now ≡ run ∷ rest = c.in-Some.ensures.cases.0 in
+    let run = c.in-Some.run' in
+    let rest = c.next.new.self in
+    let runs_are : p.runs ≡ run ∷ rest = c.in-Some.ensures in
     let joined : AreJoined p.place p.end (run ∷ rest) = subst (AreJoined p.place p.end) runs_are c.self.invariant.3 in
     let order = joined_order run.to p.end rest joined.1.1 in
     let on : p.place < run.to = omega (arith, joined.0, joined.1.0) in
@@ -146,9 +146,9 @@ invariant_of-self c =
 pub returns-clause-steps : goal.returns-clause-steps
 returns-clause-steps c =
     let p = c.self.inside in
-    let run = c.in-Some.run'.now in
-    let rest = c.in-Some.rest.now in
-    let runs_are : p.runs.now ≡ run ∷ rest = c.in-Some.ensures.cases.0 in
+    let run = c.in-Some.run' in
+    let rest = c.next.new.self in
+    let runs_are : p.runs ≡ run ∷ rest = c.in-Some.ensures in
     let joined : AreJoined p.place p.end (run ∷ rest) = subst (AreJoined p.place p.end) runs_are c.self.invariant.3 in
     let order = joined_order run.to p.end rest joined.1.1 in
     let first = λ (at : ℕ) (low : p.place ≤ at) (high : at < run.to).
@@ -186,9 +186,9 @@ returns-clause-goes c =
 pub returns-in_default-entries-clause-steps : goal.returns-in_default-entries-clause-steps
 returns-in_default-entries-clause-steps c =
     let p = c.self.inside in
-    let run = c.in-Some.run'.now in
-    let rest = c.in-Some.rest.now in
-    let runs_are : p.runs.now ≡ run ∷ rest = c.in-Some.ensures.cases.0 in
+    let run = c.in-Some.run' in
+    let rest = c.next.new.self in
+    let runs_are : p.runs ≡ run ∷ rest = c.in-Some.ensures in
     let joined : AreJoined p.place p.end (run ∷ rest) = subst (AreJoined p.place p.end) runs_are c.self.invariant.3 in
     let order = joined_order run.to p.end rest joined.1.1 in
     let on : p.place < run.to = omega (arith, joined.0, joined.1.0) in
@@ -200,3 +200,46 @@ returns-in_default-entries-clause-steps c =
     let none = none_since entry c.in_default-entries.not-Some in
     let never : false ≡ true = sym (ap (entry_gives p.key p.place) none) ∙ passes in
     absurd (cc)
+
+pub invariant_of-self-in_default-by : goal.invariant_of-self-in_default-by
+invariant_of-self-in_default-by c =
+    let p = c.self.inside in
+    let run = c.in-Some.run' in
+    let rest = c.next.new.self in
+    let runs_are : p.runs ≡ run ∷ rest = c.in-Some.ensures in
+    let joined : AreJoined p.place p.end (run ∷ rest) = subst (AreJoined p.place p.end) runs_are c.self.invariant.3 in
+    let order = joined_order run.to p.end rest joined.1.1 in
+    let on : p.place < run.to = omega (arith, joined.0, joined.1.0) in
+    let none : filler p.place p.runs ≡ None = ap (filler p.place) runs_are ∙ (rw (have_from p.place run (omega (arith, joined.0)) on) c.in_default-by.is) in
+    let lacks = covered-giver p.key p.place p.entries.now ∙ ap is_some (sym (c.self.invariant.4 p.place (omega arith) (omega (arith, on, order))) ∙ none) in
+    let covered = each_covered (arrivals_of p.key (present p.entries.now)) p.place (p.end - p.place) p.place c.self.invariant.2 (omega arith) (omega (arith, on, order)) in
+    absurd (both_ways (is_covered (arrivals_of p.key (present p.entries.now)) p.place) lacks covered)
+
+pub invariant_of-self-in_default-entries : goal.invariant_of-self-in_default-entries
+invariant_of-self-in_default-entries c =
+    let p = c.self.inside in
+    let run = c.in-Some.run' in
+    let rest = c.next.new.self in
+    let runs_are : p.runs ≡ run ∷ rest = c.in-Some.ensures in
+    let joined : AreJoined p.place p.end (run ∷ rest) = subst (AreJoined p.place p.end) runs_are c.self.invariant.3 in
+    let order = joined_order run.to p.end rest joined.1.1 in
+    let on : p.place < run.to = omega (arith, joined.0, joined.1.0) in
+    let first = is_first (entry_gives p.key p.place) c.from.result p.entries.now
+    (sym (c.self.invariant.4 p.place (omega arith) (omega (arith, on, order))) ∙ ap (filler p.place) runs_are
+    ∙ (rw (have_from p.place run (omega (arith, joined.0)) on) (c.in-Some-by.is ∙ ap (λ (n : ℕ). Some n) (sym c.from.ensures)))) in
+    let entry = get_or p.entries.now c.from.result c.index-self-from.result in
+    let passes = first.passes entry (get_or_default p.entries.now c.from.result c.index-self-from.result entry first.within) in
+    let none = none_since entry c.in_default-entries.not-Some in
+    let never : false ≡ true = sym (ap (entry_gives p.key p.place) none) ∙ passes in
+    absurd (cc)
+
+pub invariant_of-self : goal.invariant_of-self
+invariant_of-self c =
+    let p = c.self.inside in
+    let same : p.runs ≡ c.next.new.self = c.in_default.ensures.0 ∙ sym c.in_default.ensures.1 in (
+      c.self.invariant.0,
+      c.self.invariant.1,
+      c.self.invariant.2,
+      subst (AreJoined p.place p.end) same c.self.invariant.3,
+      (λ at low high. ap (filler at) (sym same) ∙ c.self.invariant.4 at low high),
+    )

@@ -1,26 +1,51 @@
--- The hole stands behind the others.
-use Rattle.std.proofs.Common.{length, ap, arith}
+-- The page stands behind the others.
+use Rattle.std.proofs.Common.{◌∷◌, ◌++◌, [], ◌∙◌, ap, arith, length}
+use Rattle.std.proofs.lemmas.List.{length_push}
 use Rattle.reassembly.specs.Runs.{unfilled}
-use Rattle.reassembly.proofs.Groups.{number, length-groups, pushed}
+use Rattle.reassembly.proofs.Groups.{counted_as, few, pages_opened, pushed}
 use Rattle.reassembly.proofs.runs.Runs.open.Goals as goal
 
 pub unreachable-requires : goal.unreachable-requires
 unreachable-requires c =
     let t = c.self.inside in
-    let many = ap (λ v. length v.groups) c.self.view_is in
-    let slots = ap (λ v. v.slots) c.self.view_is in
-    let same = length-groups t.counts.items t.runs.items in
-    omega (arith, c.in_default.ensures.full, c.requires.slots, many, slots, same)
+    let n = c.self.invariant.0 in
+    omega (
+      arith,
+      few t.counts.items t.pages.items _ (ap (λ v. v.groups) c.self.view_is) n.number n.dense,
+      counted_as t.counts.items t.pages.items _ (ap (λ v. v.groups) c.self.view_is) n.number,
+      n.enough,
+      c.requires.slots,
+      c.requires.room,
+      ap (λ v. v.slots) c.self.view_is,
+      ap (λ v. v.room) c.self.view_is,
+      c.in_default.ensures.cases.0,
+    )
 
 pub unreachable-requires-in_default-push : goal.unreachable-requires-in_default-push
 unreachable-requires-in_default-push c =
     let t = c.self.inside in
-    let room = ap (λ v. v.room) c.self.view_is in
-    let all = number t.counts.items t.runs.items _ (ap (λ v. v.groups) c.self.view_is) c.self.invariant in
-    omega (arith, c.in_default-push.ensures.full, c.requires.room, room, all)
+    omega (
+      arith,
+      c.in_default-push.ensures.full,
+      counted_as t.counts.items t.pages.items _ (ap (λ v. v.groups) c.self.view_is) c.self.invariant.0.number,
+      c.requires.slots,
+      ap (λ v. v.slots) c.self.view_is,
+      c.self.invariant.1,
+    )
+
+pub invariant_of-self : goal.invariant_of-self
+invariant_of-self c =
+    let t = c.self.inside in (
+      pages_opened t.counts.items t.pages.items t.spare.items _ _ _ c.self.invariant.0 c.open.new.self _ _ _ _
+          (omega (arith, counted_as t.counts.items t.pages.items _ (ap (λ v. v.groups) c.self.view_is) c.self.invariant.0.number, c.requires.slots, ap (λ v. v.slots) c.self.view_is))
+          c.in-Ok-push.ensures.items c.in-Ok.ensures.items
+          (omega (arith, ap length c.in-Some.ensures.items, length_push c.pop.new.self.items c.in-Some.page))
+          (omega (arith, c.pop.ensures.capacity, c.in-Ok-push.ensures.capacity)),
+      omega (arith, c.self.invariant.1, c.in-Ok.ensures.capacity),
+    )
 
 pub returns-clause-groups : goal.returns-clause-groups
 returns-clause-groups c =
     let t = c.self.inside in
-    pushed t.counts.items t.runs.items _ (ap (λ v. v.groups) c.self.view_is) c.self.invariant (unfilled c.args.places) c.push-2.new.self.items c.push.new.self.items
-    c.in-Ok-push.ensures.items c.in-Ok.ensures.items
+    pushed t.counts.items t.pages.items _ (ap (λ v. v.groups) c.self.view_is) c.self.invariant.0.number (unfilled c.args.places) _ _
+    (c.in-Ok-push.ensures.items ∙ ap (λ p. t.pages.items ++ p ∷ []) c.open.ensures) c.in-Ok.ensures.items

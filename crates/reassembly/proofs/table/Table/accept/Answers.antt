@@ -5,21 +5,21 @@ use Rattle.reassembly.proofs.table.Table.accept.Goals as goal
 
 pub returns-in-None-clause-whole : goal.returns-in-None-clause-whole
 returns-in-None-clause-whole c = λ slot e.
-    slot_whole c.args.self.now c.keep.new.self c.args.now c.args.segment c.keep.result c.requires.ready
+    slot_whole c.args.self.now c.keep.new.self c.args.now c.args.segment c.keep.result c.requires.none_whole
     (kept_answered c.args.self.now c.keep.new.self c.args.now c.args.segment c.refusal.result c.keep.result c.refusal.ensures.refused c.in-None.is c.keep.ensures.answered)
     (kept_stands c.args.self.now c.keep.new.self c.args.now c.args.segment c.refusal.result c.keep.result c.refusal.ensures.refused c.in-None.is c.keep.ensures.stands)
     slot e (c.keep.ensures.slot slot e)
 
 pub returns-in-None-clause-completed : goal.returns-in-None-clause-completed
 returns-in-None-clause-completed c = λ slot e.
-    slot_completed c.args.self.now c.keep.new.self c.args.now c.args.segment c.keep.result c.requires.ready
+    slot_completed c.args.self.now c.keep.new.self c.args.now c.args.segment c.keep.result c.requires.none_whole
     (kept_answered c.args.self.now c.keep.new.self c.args.now c.args.segment c.refusal.result c.keep.result c.refusal.ensures.refused c.in-None.is c.keep.ensures.answered)
     (kept_stands c.args.self.now c.keep.new.self c.args.now c.args.segment c.refusal.result c.keep.result c.refusal.ensures.refused c.in-None.is c.keep.ensures.stands)
     slot e (c.keep.ensures.slot slot e)
 
 pub returns-in-None-clause-none_whole : goal.returns-in-None-clause-none_whole
 returns-in-None-clause-none_whole c =
-    still_none_whole c.args.self.now c.keep.new.self c.args.now c.args.segment c.keep.result c.requires.ready
+    still_none_whole c.args.self.now c.keep.new.self c.args.now c.args.segment c.keep.result c.requires.none_whole
     (kept_answered c.args.self.now c.keep.new.self c.args.now c.args.segment c.refusal.result c.keep.result c.refusal.ensures.refused c.in-None.is c.keep.ensures.answered)
     (kept_stands c.args.self.now c.keep.new.self c.args.now c.args.segment c.refusal.result c.keep.result c.refusal.ensures.refused c.in-None.is c.keep.ensures.stands)
 

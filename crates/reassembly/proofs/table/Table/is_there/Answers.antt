@@ -34,7 +34,7 @@ has_gap-requires c =
     let at : slice_get c.args.self.now.openings c.in-Some.place ≡ Some there.opening
     = subst (λ (n : ℕ). slice_get c.args.self.now.openings n ≡ Some there.opening) slot_is there.stands_at in
     let at_here = ap (λ (v : TableState). slice_get v.openings c.in-Some.place) c.self.view_is ∙ at in
-    let are = c.self.invariant.3.index_is.each c.in-Some.place there.opening c.group.result.now at_here c.group.ensures in
+    let are = c.self.invariant.3.index_is.each c.in-Some.place there.opening c.group.result at_here c.group.ensures in
     (0, data_len there.opening.shape, are.joined)
 
 pub returns-in-Some : goal.returns-in-Some
@@ -47,9 +47,9 @@ returns-in-Some c =
     = subst (λ (n : ℕ). slice_get c.args.self.now.openings n ≡ Some there.opening) slot_is there.stands_at in
     let at_here = ap (λ (v : TableState). slice_get v.openings c.in-Some.place) c.self.view_is ∙ at in
     let shape = c.requires.shape c.in-Some.place there.opening c.in-Some.is at in
-    let are = c.self.invariant.3.index_is.each c.in-Some.place there.opening c.group.result.now at_here c.group.ensures in
+    let are = c.self.invariant.3.index_is.each c.in-Some.place there.opening c.group.result at_here c.group.ensures in
     let high = ap data_len shape in
-    let told = gap_tells_cover t.segments.entries there.opening c.group.result.now segment.offset (arrival_of segment).len c.end-to.result are
+    let told = gap_tells_cover t.segments.entries there.opening c.group.result segment.offset (arrival_of segment).len c.end-to.result are
     (sym c.end-to.ensures.end) (omega (arith, high, c.end-to.ensures.within)) in
     ap not c.has_gap.ensures ∙ told
     ∙ ap (λ (k : Key). are_covered (arrivals_of k (present t.segments.entries)) segment.offset (arrival_of segment).len) there.key_is

@@ -107,7 +107,7 @@ has_hole-requires-clause-order c =
     let index = index_kept entries t.openings.list c.make_room.new.runs.groups c.fill.new.self.groups c.args.segment c.place_for-place.result named.opening
     c.args.segment.offset c.end-to.result (length c.entries.result.now) before c.self.invariant.0.distinct c.self.invariant.0.shaped named.stands_at named.key_is
     refl c.end-to.ensures.end number new c.fill.ensures.groups in
-    (0, data_len named.opening.shape, (index.each c.place_for-place.result named.opening c.group.result.now named.stands_at c.group.ensures).joined)
+    (0, data_len named.opening.shape, (index.each c.place_for-place.result named.opening c.group.result named.stands_at c.group.ensures).joined)
 
 pub has_hole-requires-clause-within : goal.has_hole-requires-clause-within
 has_hole-requires-clause-within c = (
@@ -178,8 +178,8 @@ returns-clause-answered c buffers stands =
     let index = index_kept entries t.openings.list c.make_room.new.runs.groups c.fill.new.self.groups c.args.segment c.place_for-place.result named.opening
     c.args.segment.offset c.end-to.result (length c.entries.result.now) before c.self.invariant.0.distinct c.self.invariant.0.shaped named.stands_at named.key_is
     refl c.end-to.ensures.end number new c.fill.ensures.groups in
-    let are = index.each c.place_for-place.result named.opening c.group.result.now named.stands_at c.group.ensures in
-    let told_is = gap_tells_cover (entries ++ Some c.args.segment ∷ []) named.opening c.group.result.now 0 c.data_len.result c.data_len.result are
+    let are = index.each c.place_for-place.result named.opening c.group.result named.stands_at c.group.ensures in
+    let told_is = gap_tells_cover (entries ++ Some c.args.segment ∷ []) named.opening c.group.result 0 c.data_len.result c.data_len.result are
     (zero-add c.data_len.result) (omega (arith, ap data_len shape, c.data_len.ensures)) in
     let there : present (entries ++ Some c.args.segment ∷ []) ≡ c.args.self.now.segments ++ c.args.segment ∷ []
     = present-append entries (Some c.args.segment ∷ []) ∙ ap (λ (l : List Segment). l ++ c.args.segment ∷ []) (made.present ∙ segments) in

@@ -48,8 +48,8 @@ new-requires-clause-joined c =
     ∙ named_there c.args.self.now c.requires.buffers c.requires.buffer c.place_at-place.result c.requires.stands distinct c.requires.is_there
     (c.place_at-place.ensures c.requires.buffer.key c.requires.named) in
     let opening : c.at-opening.result.now ≡ opening_of c.requires.buffer = same_Some c.at-opening.result.now (opening_of c.requires.buffer) (sym c.at-opening.ensures.opening ∙ at) in
-    let are = c.self.invariant.3.index_is.each c.place_at-place.result c.at-opening.result.now c.group.result.now (at ∙ ap (λ (o : Opening). Some o) (sym opening)) c.group.ensures in
-    subst (λ (n : ℕ). AreJoined 0 n c.group.result.now) (sym (c.from-end.ensures ∙ c.data_len.ensures)) are.joined
+    let are = c.self.invariant.3.index_is.each c.place_at-place.result c.at-opening.result.now c.group.result (at ∙ ap (λ (o : Opening). Some o) (sym opening)) c.group.ensures in
+    subst (λ (n : ℕ). AreJoined 0 n c.group.result) (sym (c.from-end.ensures ∙ c.data_len.ensures)) are.joined
 
 pub new-requires-clause-filled : goal.new-requires-clause-filled
 new-requires-clause-filled c place within =
@@ -59,7 +59,7 @@ new-requires-clause-filled c place within =
     ∙ named_there c.args.self.now c.requires.buffers c.requires.buffer c.place_at-place.result c.requires.stands distinct c.requires.is_there
     (c.place_at-place.ensures c.requires.buffer.key c.requires.named) in
     let opening : c.at-opening.result.now ≡ opening_of c.requires.buffer = same_Some c.at-opening.result.now (opening_of c.requires.buffer) (sym c.at-opening.ensures.opening ∙ at) in
-    let are = c.self.invariant.3.index_is.each c.place_at-place.result c.at-opening.result.now c.group.result.now (at ∙ ap (λ (o : Opening). Some o) (sym opening)) c.group.ensures in
+    let are = c.self.invariant.3.index_is.each c.place_at-place.result c.at-opening.result.now c.group.result (at ∙ ap (λ (o : Opening). Some o) (sym opening)) c.group.ensures in
     are.filled place (omega (arith, within, c.from-end.ensures, c.data_len.ensures))
     ∙ ap (giver c.at-opening.result.now.key place) (sym c.entries.ensures)
 

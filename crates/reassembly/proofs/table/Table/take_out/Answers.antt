@@ -28,8 +28,8 @@ take_all-first-requires c =
     let t = c.self.inside in
     let within = subst (λ v. c.args.place < length v.openings) (sym c.self.view_is) c.requires in
     let opening = slice_get_some t.openings.list c.args.place within in
-    by_within t.segments.entries opening.0 c.group.result.now
-    (c.self.invariant.3.index_is.each c.args.place opening.0 c.group.result.now opening.1 c.group.ensures)
+    by_within t.segments.entries opening.0 c.group.result
+    (c.self.invariant.3.index_is.each c.args.place opening.0 c.group.result opening.1 c.group.ensures)
 
 pub remove-requires : goal.remove-requires
 remove-requires c =
@@ -44,9 +44,9 @@ invariant_of-self c =
     let t = c.self.inside in
     let opening = c.remove-2.result in
     let at = c.remove-2.ensures.opening in
-    let are = c.self.invariant.3.index_is.each c.args.place opening c.group.result.now at c.group.ensures in
+    let are = c.self.invariant.3.index_is.each c.args.place opening c.group.result at c.group.ensures in
     let emptied : c.take_all-first.new.segments.entries ≡ emptied_of opening.key t.segments.entries
-    = c.take_all-first.ensures.entries ∙ emptied_runs t.segments.entries opening c.group.result.now are in
+    = c.take_all-first.ensures.entries ∙ emptied_runs t.segments.entries opening c.group.result are in
     let others = ap present emptied ∙ present-emptied opening.key t.segments.entries in
     let index = left_index t.segments.entries t.openings.list t.runs.groups c.args.place opening c.self.invariant.3.index_is c.self.invariant.0.distinct at in
     let long = ap length emptied ∙ length-map t.segments.entries (without_key opening.key) in (
@@ -71,8 +71,8 @@ returns-clause-stands c =
     let t = c.self.inside in
     let opening = c.remove-2.result in
     let at = c.remove-2.ensures.opening in
-    let are = c.self.invariant.3.index_is.each c.args.place opening c.group.result.now at c.group.ensures in
-    let others = ap present (c.take_all-first.ensures.entries ∙ emptied_runs t.segments.entries opening c.group.result.now are)
+    let are = c.self.invariant.3.index_is.each c.args.place opening c.group.result at c.group.ensures in
+    let others = ap present (c.take_all-first.ensures.entries ∙ emptied_runs t.segments.entries opening c.group.result are)
     ∙ present-emptied opening.key t.segments.entries in
     left_stands t.limits t.openings.list t.openings.slots (present t.segments.entries) (total_size (present t.segments.entries)) c.args.place opening c.args.self.now c.self.view_is c.self.invariant.0 at c.remove-2.new.self.slots
     c.remove-2.new.self.list (present c.take_all-first.new.segments.entries) c.remove-2.ensures.others.list others
@@ -82,10 +82,10 @@ returns-clause-first c = λ buffers taken stands names is_there.
     let t = c.self.inside in
     let opening = c.remove-2.result in
     let at = c.remove-2.ensures.opening in
-    let are = c.self.invariant.3.index_is.each c.args.place opening c.group.result.now at c.group.ensures in
+    let are = c.self.invariant.3.index_is.each c.args.place opening c.group.result at c.group.ensures in
     let shaped = AllByRecursion-slice_get (λ (o : Opening). o.shape.head_len < o.shape.total) t.openings.list c.args.place opening at c.self.invariant.0.shaped in
     c.take_all-first.ensures.first
-    ∙ first_is t.segments.entries opening c.group.result.now are (omega (arith, shaped))
+    ∙ first_is t.segments.entries opening c.group.result are (omega (arith, shaped))
     ∙ left_first t.limits t.openings.list t.openings.slots (present t.segments.entries) (total_size (present t.segments.entries)) c.args.place opening c.args.self.now c.self.view_is c.self.invariant.0 at c.remove-2.new.self.slots
     buffers taken stands names is_there
 

@@ -1,37 +1,56 @@
 -- One run more.
-use Rattle.std.proofs.Common.{◌≡◌, ◌+◌, ◌∙◌, ℕ, suc, List, Option, None, length, drop, get_or, sym, ap, subst, arith}
-use Rattle.nsap.proofs.ClnpBase.Lists.{AllByRecursion-get_or}
+use Rattle.std.proofs.Common.{◌∙◌, ℕ, List, length, sym, ap, subst, arith, refl}
+use Rattle.std.specs.List.{AllByRecursion}
 use Rattle.reassembly.specs.declared.runs.Run.{Run}
-use Rattle.reassembly.specs.declared.segment.Segment.{Segment}
-use Rattle.reassembly.specs.Entries.{IsWithin, emptied_at}
+use Rattle.reassembly.specs.Entries.{IsWithin}
 use Rattle.reassembly.specs.Index.{emptied_by}
-use Rattle.reassembly.proofs.Emptying.{emptied-none, emptied-rest}
 use Rattle.reassembly.proofs.Entries.{length-emptied}
 use Rattle.reassembly.proofs.table.ending.take_each.Goals as goal
 
+pub loop-run-init : goal.loop-run-init
+loop-run-init c = record { entries = refl; number = refl; room = refl; within = c.requires }
+
 pub take-requires : goal.take-requires
 take-requires c =
-    let runs = c.args.runs.now in
-    let i = c.loop-run.run-index in
-    let none : Run = record { from = 0; to = 0; by = None } in
-    subst (λ (n : ℕ). IsWithin n (get_or runs i none).by) (sym c.loop-run.invariant.1)
-    (AllByRecursion-get_or (λ (run : Run). IsWithin (length c.args.segments.now.entries) run.by) runs i none c.loop-run-test.true c.requires)
+    let k = c.loop-run.invariant in
+    subst (λ (n : ℕ). IsWithin n c.in-Some.run'.by) (sym k.number)
+    (subst (AllByRecursion (λ run. IsWithin (length c.args.segments.now.entries) run.by)) c.in-Some.ensures k.within).0
+
+pub loop-run-smaller-in-Some : goal.loop-run-smaller-in-Some
+loop-run-smaller-in-Some c =
+    omega (arith, ap length c.in-Some.ensures)
+
+pub loop-run-preserved-in-Some : goal.loop-run-preserved-in-Some
+loop-run-preserved-in-Some c =
+    let k = c.loop-run.invariant in
+    let by = c.in-Some.run'.by in
+    record {
+      entries = ap (emptied_by c.next.new.self) c.take.ensures.entries
+          ∙ ap (λ (r : List Run). emptied_by r c.loop-run.segments.entries) (sym c.in-Some.ensures) ∙ k.entries;
+      number = ap length c.take.ensures.entries ∙ length-emptied by c.loop-run.segments.entries ∙ k.number;
+      room = c.take.ensures.room ∙ k.room;
+      within = (subst (AllByRecursion (λ run. IsWithin (length c.args.segments.now.entries) run.by)) c.in-Some.ensures k.within).1;
+    }
+
+pub loop-run-smaller : goal.loop-run-smaller
+loop-run-smaller c =
+    omega (arith, ap length c.in-Some.ensures)
 
 pub loop-run-preserved : goal.loop-run-preserved
 loop-run-preserved c =
-    let runs = c.args.runs.now in
-    let i = c.loop-run.run-index in
-    let none : Run = record { from = 0; to = 0; by = None } in
-    let by = (get_or runs i none).by in
-    let entries = c.loop-run.segments.entries in
-    let next : i + 1 ≡ suc i = omega arith in (
-      ap (λ (l : List (Option Segment)). emptied_by (drop (i + 1) runs) l) c.take.ensures.entries
-          ∙ ap (λ (n : ℕ). emptied_by (drop n runs) (emptied_at by entries)) next
-          ∙ sym (emptied-rest runs i none entries c.loop-run-test.true) ∙ c.loop-run.invariant.0,
-      ap length c.take.ensures.entries ∙ length-emptied by entries ∙ c.loop-run.invariant.1,
-      c.take.ensures.room ∙ c.loop-run.invariant.2,
-    )
+    let k = c.loop-run.invariant in
+    let by = c.in-Some.run'.by in
+    record {
+      entries = ap (emptied_by c.next.new.self) c.take.ensures.entries
+          ∙ ap (λ (r : List Run). emptied_by r c.loop-run.segments.entries) (sym c.in-Some.ensures) ∙ k.entries;
+      number = ap length c.take.ensures.entries ∙ length-emptied by c.loop-run.segments.entries ∙ k.number;
+      room = c.take.ensures.room ∙ k.room;
+      within = (subst (AllByRecursion (λ run. IsWithin (length c.args.segments.now.entries) run.by)) c.in-Some.ensures k.within).1;
+    }
 
 pub returns-clause-entries : goal.returns-clause-entries
 returns-clause-entries c =
-    sym (emptied-none c.args.runs.now c.loop-run.run-index c.loop-run.segments.entries (omega arith)) ∙ c.loop-run.invariant.0
+    ap (λ (r : List Run). emptied_by r c.loop-run.segments.entries) (sym c.in_default.ensures.0) ∙ c.loop-run.invariant.entries
+
+pub returns-clause-room : goal.returns-clause-room
+returns-clause-room c = c.loop-run.invariant.room

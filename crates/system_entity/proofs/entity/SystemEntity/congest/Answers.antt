@@ -8,11 +8,10 @@ invariant_of-self c = record {
   moment = c.self.invariant.moment;
   wide = c.self.invariant.wide;
   number = c.self.invariant.number;
-  ready = λ free.
-      let r = c.self.invariant.ready free in
+  some = λ free.
+      let r = c.self.invariant.some free in
       record {
         state = (congest r.state c.args.on).after;
         stands = record { not_spent = r.stands.not_spent; parts = while_congested _ c.args.on r.state r.stands.parts };
-        ready = r.ready;
       };
 }

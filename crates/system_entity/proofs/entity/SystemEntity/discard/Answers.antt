@@ -1,6 +1,5 @@
 -- The step is whole: the entity stands for the state after it.
 use Rattle.std.proofs.Common.{refl, sym, subst, false}
-use Rattle.clnp_machine.specs.Reassembly.State.{IsReady}
 use Rattle.clnp_machine.specs.Local.{discard}
 use Rattle.system_entity.specs.State.{SystemEntityState}
 use Rattle.system_entity.specs.Stands.{PartsStand, Stands}
@@ -23,19 +22,18 @@ returns-clause-outputs c = λ s content h carried frame.
 
 pub invariant_of-self-2 : goal.invariant_of-self-2
 invariant_of-self-2 c =
-    let old = c.self.invariant.ready c.if-self.false in
+    let old = c.self.invariant.some c.if-self.false in
     let content = c.has_content.ensures in
     record {
       moment = c.self-2.invariant.moment;
       wide = c.self-2.invariant.wide;
       number = c.self-2.invariant.number;
-      ready = λ free. record {
+      some = λ free. record {
         state = (discard old.state content.0 c.args.reason c.args.place).after;
         stands = record {
           not_spent = refl;
           parts = while_spent _ false _ (subst (λ (e : SystemEntityState). PartsStand e (discard old.state content.0 c.args.reason c.args.place).after) (sym c.self-2.view_is)
               (c.in_ok-drop_frame.ensures.stands old.state content.0 (while_spent _ _ old.state old.stands.parts) content.1 content.2));
         };
-        ready = subst (λ (e : SystemEntityState). IsReady e.moment e.local.table) (sym c.self-2.view_is) c.in_ok-drop_frame.ensures.ready;
       };
     }

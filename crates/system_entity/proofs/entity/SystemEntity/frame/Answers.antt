@@ -1,6 +1,5 @@
 -- The step is whole, or nothing was done yet.
 use Rattle.std.proofs.Common.{refl, sym, subst, Bool, false, List}
-use Rattle.clnp_machine.specs.Reassembly.State.{IsReady}
 use Rattle.clnp_machine.specs.EsisTables.declared.fact.Neighbour.{Neighbour}
 use Rattle.clnp_machine.specs.ClnpPlan.declared.output.Output.{Output}
 use Rattle.clnp_machine.specs.Content.{Content}
@@ -38,7 +37,7 @@ returns-clause-comes c = λ s content h carried frame.
 
 pub invariant_of-self-2 : goal.invariant_of-self-2
 invariant_of-self-2 c =
-    let old = c.self.invariant.ready c.if-self.false in
+    let old = c.self.invariant.some c.if-self.false in
     let content = c.has_content.ensures in
     let parts = while_spent _ _ old.state old.stands.parts in
     let some = some_state c.in_ok-arrival.arrival old.state c.args.neighbour c.args.group content.0 _ c.arrive.new.self c.args.out.now.items c.arrive.new.out.items
@@ -47,12 +46,11 @@ invariant_of-self-2 c =
       moment = c.self-2.invariant.moment;
       wide = c.self-2.invariant.wide;
       number = c.self-2.invariant.number;
-      ready = λ free. record {
+      some = λ free. record {
         state = some.0;
         stands = record {
           not_spent = refl;
           parts = while_spent _ false _ (subst (λ (e : SystemEntityState). PartsStand e some.0) (sym c.self-2.view_is) some.1);
         };
-        ready = subst (λ (e : SystemEntityState). IsReady e.moment e.local.table) (sym c.self-2.view_is) c.in_ok-arrival.ensures.ready;
       };
     }

@@ -1,6 +1,5 @@
 -- The step is whole: the entity stands for the state after it.
 use Rattle.std.proofs.Common.{refl, sym, subst, false}
-use Rattle.clnp_machine.specs.Reassembly.State.{IsReady}
 use Rattle.clnp_machine.specs.Local.{make}
 use Rattle.clnp_machine.specs.System.{SystemState}
 use Rattle.system_entity.specs.State.{SystemEntityState}
@@ -10,20 +9,19 @@ use Rattle.system_entity.proofs.entity.SystemEntity.make.Goals as goal
 
 pub invariant_of-self-in-Ok : goal.invariant_of-self-in-Ok
 invariant_of-self-in-Ok c =
-    let old = c.self.invariant.ready c.if-self.false in
+    let old = c.self.invariant.some c.if-self.false in
     let t : SystemState = (make old.state c.args.kind c.args.from c.args.to c.args.body.now c.args.ask.now).after in
     record {
       moment = c.self-2.invariant.moment;
       wide = c.self-2.invariant.wide;
       number = c.self-2.invariant.number;
-      ready = λ free. record {
+      some = λ free. record {
         state = t;
         stands = record {
           not_spent = refl;
           parts = while_spent _ false _ (subst (λ (e : SystemEntityState). PartsStand e t) (sym c.self-2.view_is)
               (c.in-Ok.ensures.stands old.state (while_spent _ _ old.state old.stands.parts)));
         };
-        ready = subst (λ (e : SystemEntityState). IsReady e.moment e.local.table) (sym c.self-2.view_is) c.in-Ok.ensures.ready;
       };
     }
 

@@ -24,9 +24,8 @@ invariant_of-result c = record {
   wide = c.in_ok-ports.ensures.wide;
   number = ap length c.in_ok-ports.ensures.ports
       ∙ ap (λ (x : SystemConfiguration). length x.ports) (sym (c.in_ok-local.ensures.stands 0 c.args.now).configuration);
-  ready = λ free. record {
+  some = λ free. record {
     state = first_state 0 c.args.config.now c.args.limits.now c.args.now c.args.quiet;
     stands = returns-clause-stands c 0;
-    ready = c.in_ok-local.ensures.ready c.args.now;
   };
 }

@@ -10,8 +10,8 @@ invariant_of-self c = record {
   moment = c.self.invariant.moment;
   wide = c.self.invariant.wide;
   number = c.self.invariant.number;
-  ready = λ free.
-      let r = c.self.invariant.ready free in
+  some = λ free.
+      let r = c.self.invariant.some free in
       record {
         state = as_changed (RouteIsGone c.args.prefix.now) r.state;
         stands = record {
@@ -19,6 +19,5 @@ invariant_of-self c = record {
           parts = while_gone (state_of c.self.inside) c.remove.new.self c.args.prefix.now r.state
               (c.remove.ensures.stands r.state.attached.routes r.stands.parts.routes) r.stands.parts;
         };
-        ready = r.ready;
       };
 }

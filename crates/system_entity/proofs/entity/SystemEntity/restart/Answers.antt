@@ -39,7 +39,7 @@ invariant_of-self c = record {
   moment = c.self.invariant.moment;
   wide = c.self.invariant.wide;
   number = c.self.invariant.number ∙ ap (λ (x : SystemConfiguration). length x.ports) (sym c.restart.ensures.config);
-  ready = λ free.
-      let r = c.self.invariant.ready free in
-      record { state = restarted r.state; stands = again c r.state r.stands; ready = c.restart.ensures.ready c.self.inside.moment };
+  some = λ free.
+      let r = c.self.invariant.some free in
+      record { state = restarted r.state; stands = again c r.state r.stands };
 }

@@ -33,15 +33,14 @@ invariant_of-self c =
       wide = subst (λ (ps : List PortConfig). AllByRecursion IsPort ps) (sym (now_taken c))
           (wide_taking c.args.port c.args.mtu found (ports c) refl c.self.invariant.wide fair);
       number = ap length (now_taken c) ∙ taking_length c.args.port c.args.mtu found (ports c) ∙ c.self.invariant.number;
-      ready = λ free.
-          let r = c.self.invariant.ready free in
+      some = λ free.
+          let r = c.self.invariant.some free in
           record {
             state = as_changed (PortTakes c.args.port c.args.mtu) r.state;
             stands = record {
               not_spent = r.stands.not_spent;
               parts = while_taking (state_of c.self.inside) c.args.port c.args.mtu _ r.state (now_taken c) r.stands.parts;
             };
-            ready = r.ready;
           };
     }
 

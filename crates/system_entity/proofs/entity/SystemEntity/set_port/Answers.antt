@@ -12,8 +12,8 @@ invariant_of-self c = record {
   wide = wide_set c.self.inside.ports.items c.from.result c.args.config c.self.invariant.wide
       (record { transit = record { least = c.requires.transit; most = omega arith }; mtu = record { least = c.requires.mtu; most = omega arith } });
   number = length-set c.self.inside.ports.items c.from.result c.args.config ∙ c.self.invariant.number;
-  ready = λ free.
-      let r = c.self.invariant.ready free in
+  some = λ free.
+      let r = c.self.invariant.some free in
       record {
         state = as_changed (PortIsAt c.args.port c.args.config) r.state;
         stands = record {
@@ -21,6 +21,5 @@ invariant_of-self c = record {
           parts = while_moved (state_of c.self.inside) c.args.port c.from.result c.args.config c.greets_again.new.self r.state c.from.ensures
               c.greets_again.ensures r.stands.parts;
         };
-        ready = r.ready;
       };
 }

@@ -8,10 +8,10 @@ invariant_of-self c = record {
   moment = c.self.invariant.moment;
   wide = c.self.invariant.wide;
   number = c.self.invariant.number;
-  ready = λ free.
-      let r = c.self.invariant.ready free in
+  some = λ free.
+      let r = c.self.invariant.some free in
       let routes = r.state.attached.routes in
       let some = set_or_kept c.set.result (state_of c.self.inside) c.set.new.self c.args.route r.state
       (c.set.ensures.stands routes r.stands.parts.routes) (c.set.ensures.same routes r.stands.parts.routes) r.stands.parts in
-      record { state = some.0; stands = record { not_spent = r.stands.not_spent; parts = some.1 }; ready = r.ready };
+      record { state = some.0; stands = record { not_spent = r.stands.not_spent; parts = some.1 } };
 }

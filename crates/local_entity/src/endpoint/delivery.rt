@@ -1,0 +1,67 @@
+//! Whole units that are handed up (ISO/IEC 8473, section 6.2).
+ghost use Rattle.std.specs.Prelude.{◌≡◌, ◌<◌, ◌^◌, List, OnOk, OnErr};
+ghost use Rattle.clnp_machine.specs.ClnpOptions.Parameter.{Parameter};
+ghost use Rattle.clnp_machine.specs.PduHeader.declared.kind.Kind.{Kind as KindOf};
+ghost use Rattle.clnp_machine.specs.Local as locally;
+ghost use Rattle.clnp_machine.specs.Reassembly.State.{TableState};
+ghost use Rattle.clnp_machine.specs.System.{SystemState};
+ghost use Rattle.local_entity.specs.Endpoint.{StandsWith};
+ghost use Rattle.local_entity.specs.Local.{Appends};
+ghost use Rattle.local_entity.specs.Receipt.{purpose_of};
+
+use super::Endpoint;
+use crate::action::Action;
+use crate::purpose::Purpose;
+use clnp_machine::clnp_base::{NoMemory, Octets};
+use clnp_machine::nsap::Address;
+use clnp_machine::system_plan::Note;
+use std::alloc::Global;
+
+impl Endpoint {
+    /// Hands the data of a whole unit up: an error report tells its reason and place, an echo request is answered, and an echo
+    /// reply is taken for the request that it answers.
+    ///
+    /// # Errors
+    ///
+    /// `NoMemory`: nothing changes then.
+    pub(crate) fn hand_up(
+        &mut self,
+        alloc: Global,
+        now: u64,
+        purpose: Purpose,
+        from: Address,
+        to: Address,
+        octets: Octets,
+        out: &mut Vec<Action>,
+    ) -> Result<(), NoMemory>
+        requires moment { now < 2 ^ 62 }
+        ensures stands { OnOk result ((table : TableState) (s : SystemState) (kind : KindOf) (options : List Parameter) → StandsWith table self.old s
+            → s.moment ≡ now → purpose ≡ purpose_of kind options
+            → StandsWith table self.new (locally.hand_up s kind from to octets options).after) }
+        ensures actions { OnOk result ((table : TableState) (s : SystemState) (kind : KindOf) (options : List Parameter) → StandsWith table self.old s
+            → s.moment ≡ now → purpose ≡ purpose_of kind options
+            → Appends out.old.items out.new.items (locally.hand_up s kind from to octets options).actions) }
+        ensures same { OnErr result (self.new ≡ self.old) }
+        ensures none { OnErr result (out.new.items ≡ out.old.items) }
+        ensures config { self.new.config ≡ self.old.config }
+    {
+        match purpose {
+            Purpose::Data => {
+                out.push(Action::Note(Note::Got { from, to, octets }))?;
+                Ok(())
+            }
+            Purpose::Report { reason, place } => {
+                out.push(Action::Note(Note::Report {
+                    from,
+                    to,
+                    reason,
+                    place,
+                    octets,
+                }))?;
+                Ok(())
+            }
+            Purpose::Request => self.reply(alloc, now, from, to, octets.as_bytes(), out),
+            Purpose::Reply => self.take_reply(from, to, octets.as_bytes(), out),
+        }
+    }
+}

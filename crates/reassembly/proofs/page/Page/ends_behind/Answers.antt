@@ -1,0 +1,12 @@
+use Rattle.std.proofs.Common.{◌≡◌, ◌∙◌, ◌-◌, length, Some, ap, sym}
+use Rattle.std.specs.Prelude.{slice_get}
+use Rattle.std.specs.Option.{option_copied}
+use Rattle.reassembly.specs.Pages.{ends_behind}
+use Rattle.reassembly.proofs.Apart.{ends_at}
+use Rattle.reassembly.proofs.page.Page.ends_behind.Goals as goal
+
+pub returns-in-Some : goal.returns-in-Some
+returns-in-Some c =
+    let runs = c.deref.result.now in
+    let is : slice_get runs (length runs - 1) ≡ Some c.in-Some.run'.now = sym c.last.ensures.value ∙ ap option_copied c.in-Some.is in
+    sym (ap (ends_behind c.args.place) (sym (c.deref.ensures.value ∙ c.self.view_is)) ∙ ends_at c.args.place runs c.in-Some.run'.now is)

@@ -1,0 +1,19 @@
+-- No page is left.
+use Rattle.std.proofs.Common.{◌+◌, length, map, ap, arith}
+use Rattle.std.proofs.lemmas.List.{length-drop}
+use Rattle.reassembly.specs.Pages.{groups_of, on_pages}
+use Rattle.reassembly.proofs.Groups.{pages_cleared}
+use Rattle.reassembly.proofs.runs.Runs.clear.Goals as goal
+
+pub invariant_of-self : goal.invariant_of-self
+invariant_of-self c =
+    let t = c.self.inside in (
+      pages_cleared t.counts.items t.pages.items t.spare.items _ _ _ c.self.invariant.0 _ _ _ _
+          (omega (arith, ap length c.take_pages.ensures.pages, length-drop (0 + c.len-count.result) t.pages.items, c.len-count.ensures)) c.clear.ensures.items
+          (omega (arith, c.take_pages.ensures.spare, c.len-count.ensures))
+          (omega (arith, c.take_pages.ensures.capacity, c.take_pages.ensures.spare_capacity)),
+      omega (arith, c.self.invariant.1, c.clear.ensures.capacity),
+    )
+
+pub returns-clause-groups : goal.returns-clause-groups
+returns-clause-groups c = ap (λ l. map on_pages (groups_of l c.take_pages.new.pages.items)) c.clear.ensures.items
