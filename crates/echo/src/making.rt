@@ -6,14 +6,10 @@ ghost use Rattle.echo.specs.Reply.{needs_identifier, part_of, plain_length, repl
 
 use pdu_header::clnp_options::OptionList;
 use pdu_header::nsap::Address;
-use pdu_header::{Kind, Parts, Pdu, SegPart};
+use pdu_header::{FIXED_PART, Kind, Parts, Pdu, SEGMENTATION_PART, SegPart};
 
 /// The octets of a PDU that every subnetwork takes in one piece.
 const MOST_UNSEGMENTED: usize = 512;
-/// The octets of a header's fixed part (ISO 8473, section 7.2).
-const FIXED_PART: usize = 9;
-/// The octets of a header's segmentation part (section 7.4).
-const SEGMENTATION_PART: usize = 6;
 
 /// Whether an echo PDU with so many octets of data needs a data unit identifier: without a segmentation part it would
 /// have more than 512 octets, and not every subnetwork takes it in one piece.

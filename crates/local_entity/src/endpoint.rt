@@ -23,7 +23,9 @@ use crate::pool::{DrawRefusal, IdPool};
 use clnp_machine::clnp_base::NoMemory;
 use clnp_machine::clnp_views::{Frame, View};
 use clnp_machine::nsap::Address;
-use clnp_machine::pdu_header::{Header, HeaderRefusal, Kind, Parts, SegPart};
+use clnp_machine::pdu_header::{
+    FIXED_PART, Header, HeaderRefusal, Kind, Parts, SEGMENTATION_PART, SegPart,
+};
 use clnp_machine::system_plan::{Ask, Note, SendRefusal, SystemConfig};
 use std::alloc::Global;
 
@@ -262,7 +264,8 @@ impl Endpoint {
             return None;
         }
         let addresses = 2 + to.as_bytes().len() + from.as_bytes().len();
-        let head_len = 9 + addresses + 6 + ask.options.as_bytes().len();
+        let options = ask.options.as_bytes().len();
+        let head_len = FIXED_PART + addresses + SEGMENTATION_PART + options;
         Some(SegPart {
             id: self.pool.next(),
             offset: 0,

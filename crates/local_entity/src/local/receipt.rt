@@ -1,7 +1,6 @@
 //! Receipt: PDUs for the system's own addresses, and reassembly buffers whose time has ended.
 ghost use Rattle.std.specs.Prelude.{◌≡◌, ◌≤◌, ◌<◌, ◌+◌, ◌^◌, ◌++◌, ◌∷◌, [], ℕ, List, IfOk, OnOk, OnErr, length};
 ghost use Rattle.clnp_machine.specs.PduHeader.Grammar.{BeginsWith};
-ghost use Rattle.clnp_machine.specs.PduHeader.Spelling.{type_code};
 ghost use Rattle.clnp_machine.specs.PduHeader.Value.{PduValue};
 ghost use Rattle.clnp_machine.specs.Reassembly.State.{IsReady};
 ghost use Rattle.clnp_machine.specs.Unit.{Packet, IsCarriable, wire};
@@ -16,7 +15,7 @@ use crate::purpose::purpose_in;
 use clnp_machine::clnp_base::{NoMemory, Octets};
 use clnp_machine::clnp_views::Frame;
 use clnp_machine::laws as machine_laws;
-use clnp_machine::pdu_header::{Kind, Pdu, SegPart, decode, laws};
+use clnp_machine::pdu_header::{Pdu, SegPart, decode, laws};
 use clnp_machine::reassembly::{Key, Segment, Shape};
 use std::alloc::Global;
 
@@ -93,7 +92,7 @@ fn segment_in(frame: &Frame, pdu: &Pdu<'_>, part: SegPart) -> Result<Segment, No
     let shape = Shape {
         total: part.total,
         head_len: pdu.head.len() as u8,
-        kind: type_code(pdu.kind),
+        kind: pdu.kind.type_code(),
     };
     let octets = pdu.head.len() + pdu.body.len();
     Ok(Segment {
@@ -103,16 +102,4 @@ fn segment_in(frame: &Frame, pdu: &Pdu<'_>, part: SegPart) -> Result<Segment, No
         life: pdu.life,
         pdu: frame.view()?.narrow(0, octets),
     })
-}
-
-/// The type of a PDU of this kind, as its octet says (ISO/IEC 8473, section 7.2.7; RFC 1575, section 4).
-fn type_code(kind: Kind) -> u8
-    ensures { result ≡ type_code kind }
-{
-    match kind {
-        Kind::Er => 1,
-        Kind::Dt => 28,
-        Kind::Erq => 30,
-        Kind::Erp => 31,
-    }
 }
