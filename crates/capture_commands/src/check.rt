@@ -9,7 +9,8 @@ ghost use Rattle.command_base.specs.ComesAs.{ComesAs, most_input};
 ghost use Rattle.capture_commands.specs.Check.{checking, counting, first_checked, tally_text};
 
 use crate::fault::fault_of;
-use captures::{Verdict, check_line, laws};
+use captures::many::check_line;
+use captures::{Verdict, laws};
 use command_base::clnp_base::{DigitValues, NoMemory, Sink, next_line, push};
 use command_base::{
     LineFault, LineStop, Status, push_number, refuse, write_block, write_full_block,

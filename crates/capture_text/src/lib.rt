@@ -7,9 +7,15 @@ pub mod laws;
 mod pack;
 mod pieces;
 mod refusal;
+mod single;
 #[cfg(test)]
 mod tests;
 mod words;
 
-pub use pack::pack_line;
 pub use refusal::PackRefusal;
+pub use single::pack_line;
+
+/// The call of one line for those who have many: what digits are worth is asked once for all.
+pub mod many {
+    pub use crate::pack::pack_line;
+}

@@ -12,7 +12,8 @@ use crate::laid::frame_of;
 use crate::refusal::PackRefusal;
 use crate::words::is_unpackable;
 use captures::clnp_base::{DigitValues, push_hex, same};
-use captures::{MOST_OCTETS, is_skipped, laws, show_line};
+use captures::many::show_line;
+use captures::{MOST_OCTETS, is_skipped, laws};
 use std::alloc::Global;
 
 /// Appends the digits of the frame that a shown line packs to, and answers true; or answers false where the line is to

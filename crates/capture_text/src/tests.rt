@@ -1,7 +1,8 @@
 //! Lines packed and shown again, and lines of which one word was changed.
-use crate::{PackRefusal, pack_line};
+use crate::PackRefusal;
+use crate::many::pack_line;
 use captures::clnp_base::{DigitValues, NoMemory, next_line, next_word, push, words};
-use captures::{read_capture, show_line};
+use captures::many::{read_capture, show_line};
 use std::alloc::Global;
 
 /// Whether a line packs to these digits, and is shown of their frame again.

@@ -6,13 +6,21 @@ mod digits;
 mod esis;
 pub mod laws;
 mod line;
+mod single;
 mod vector;
 mod words;
 
-pub use capture::{LineRefusal, MOST_OCTETS, read_capture};
+pub use capture::{LineRefusal, MOST_OCTETS};
 pub use digits::push_spelled;
 pub use esis_pdus;
 pub use esis_pdus::clnp_base;
 pub use esis_pdus::clnp_base::is_skipped;
-pub use line::show_line;
-pub use vector::{Verdict, check_line};
+pub use single::{check_line, read_capture, show_line};
+pub use vector::Verdict;
+
+/// The calls of one line for those who have many: what digits are worth is asked once for all.
+pub mod many {
+    pub use crate::capture::read_capture;
+    pub use crate::line::show_line;
+    pub use crate::vector::check_line;
+}

@@ -11,9 +11,9 @@ const SHOWN: &[u8] =
 #[test]
 fn shows_a_frame_behind_what_stands_there(rt: HostRuntime) {
     let mut frame = Vec::new(rt.alloc());
-    assert!(rt; read_capture(&DigitValues::new(), FRAME, &mut frame) == Ok(true));
+    assert!(rt; read_capture(FRAME, &mut frame) == Ok(true));
     let mut out = Vec::from_slice(rt.alloc(), b"before\n").expect(&rt, "memory");
-    assert!(rt; show_line(&frame, &mut out).is_ok());
+    assert!(rt; show_line(rt.alloc(), &frame, &mut out).is_ok());
     assert!(rt; out.as_slice() == SHOWN);
 }
 
@@ -33,7 +33,6 @@ fn digits_and(alloc: Global, more: &[u8]) -> Result<Vec<u8>, AllocError> {
 
 #[test]
 fn reads_70000_octets_and_no_more(rt: HostRuntime) {
-    let values = DigitValues::new();
     let mut frame = Vec::new(rt.alloc());
     let rows = [
         (b"".as_slice(), Ok(true)),
@@ -43,14 +42,13 @@ fn reads_70000_octets_and_no_more(rt: HostRuntime) {
     ];
     for (more, answer) in rows {
         let line = digits_and(rt.alloc(), more).expect(&rt, "memory");
-        assert!(rt; read_capture(&values, &line, &mut frame) == answer);
+        assert!(rt; read_capture(&line, &mut frame) == answer);
         assert!(rt; frame.len() == 70_000);
     }
 }
 
 #[test]
 fn judges_70000_octets_and_no_more(rt: HostRuntime) {
-    let values = DigitValues::new();
     let mut out = Vec::new(rt.alloc());
     let rows = [
         (b" => alien".as_slice(), Ok(Verdict::Pass)),
@@ -58,7 +56,7 @@ fn judges_70000_octets_and_no_more(rt: HostRuntime) {
     ];
     for (more, answer) in rows {
         let line = digits_and(rt.alloc(), more).expect(&rt, "memory");
-        assert!(rt; check_line(rt.alloc(), &values, &line, 3, &mut out) == answer);
+        assert!(rt; check_line(rt.alloc(), &line, 3, &mut out) == answer);
         assert!(rt; out.as_slice() == b"3 pass".as_slice());
     }
 }

@@ -8,7 +8,7 @@ ghost use Rattle.pcap_commands.specs.Stations.{destination_word, frame_line};
 
 use crate::form::Form;
 use crate::stations::push_destination;
-use captures::show_line;
+use captures::many::show_line;
 use command_base::clnp_base::{NoMemory, push, push_decimal, push_hex};
 use command_base::push_number;
 use pcap_frames::nsap::Snpa;
