@@ -1,8 +1,9 @@
 -- What stands in the slots of a list, where one comes, goes or is filled anew.
-use Rattle.std.proofs.Common.{◌≡◌, ◌≢◌, ◌∙◌, sym, ap, refl, ℕ, zero, suc, ◌<◌, ◌≤◌, true, List, [], ◌∷◌, length, Option, Some, None, is_some, inl, inr, arith}
-use Rattle.std.specs.Prelude.{slice_get, slice_set}
+use Rattle.std.proofs.Common.{◌≡◌, ◌≢◌, ◌∙◌, sym, ap, refl, ℕ, zero, suc, ◌<◌, ◌≤◌, Bool, true, List, [], ◌∷◌, length, Option, Some, None, is_some, cond, count_by, inl, inr, arith}
+use Rattle.std.specs.Prelude.{slice_get, slice_index_or, slice_set}
 use Rattle.std.specs.List.{AllByRecursion, cons_option, filter_map, insert, remove}
 use Rattle.std.proofs.lemmas.Bool.{cases_eq, false≢true}
+use Rattle.std.proofs.lemmas.List.Sums.{sum_by-set}
 use Rattle.std.proofs.lemmas.Option.{none-some, same_Some}
 use Rattle.esis_tables.specs.Slots.{AreApart}
 use Rattle.esis_tables.proofs.Keeping.{all_insert, all_remove}
@@ -47,12 +48,21 @@ set-cons_option : {X : Type 0} (option : Option X) (xs : List X) (place : ℕ) (
 set-cons_option None xs place x e = absurd (false≢true e)
 set-cons_option (Some y) xs place x e = refl
 
--- a slot that is emptied and filled again
-pub others_again : {X : Type 0} (old empty new : ℕ → Option X) (slot again : ℕ) → again ≡ slot
-    → ((other : ℕ) → other ≢ slot → empty other ≡ old other) → ((other : ℕ) → other ≢ again → new other ≡ empty other)
-    → (other : ℕ) → other ≢ slot → new other ≡ old other
-others_again old empty new slot again same emptied filled other differs =
-    filled other (λ e. differs (e ∙ same)) ∙ emptied other differs
+-- ---- a slot with another value
+
+pub slot_within : {X : Type 0} (slots : List (Option X)) (slot : ℕ) → is_some (slice_index_or slots slot None) ≡ true → slot < length slots
+slot_within [] slot e = absurd (false≢true e)
+slot_within (first ∷ others) zero e = omega arith
+slot_within (first ∷ others) (suc slot) e = omega (arith, slot_within others slot e)
+
+pub number_again : {X : Type 0} (slots : List (Option X)) (slot : ℕ) (x : X) → is_some (slice_index_or slots slot None) ≡ true
+    → count_by is_some (slice_set slots slot (Some x)) ≡ count_by is_some slots
+number_again slots slot x taken =
+    omega (
+      arith,
+      sum_by-set (λ option. cond (is_some option) 1 0) slots slot (Some x) None (slot_within slots slot taken),
+      ap {B = ℕ} (λ (b : Bool). cond b 1 0) taken,
+    )
 
 module _ {X : Type 0} (old : ℕ → Option X) where
   abbrev pub AllTaken : List ℕ → Type 0

@@ -133,9 +133,10 @@ impl Table {
             until,
             number,
         };
-        match self.find(&key) {
+        let hint = self.hints.number_of(&key);
+        match self.find(hint, &key) {
             Ok(at) => {
-                self.write_over(at, entry);
+                self.write_over(at, entry, hint);
                 Heard::Again
             }
             Err(at) => {
@@ -143,7 +144,7 @@ impl Table {
                     let entries = self.len();
                     return Heard::Full { entries };
                 }
-                self.put_at(at, entry);
+                self.put_at(at, entry, hint);
                 Heard::New
             }
         }
@@ -154,7 +155,8 @@ impl Table {
         ensures keeps { (kept : List Fact) → Keeps self.old kept → Keeps self.new (without key.now kept) }
         ensures limit { self.new.limit ≡ self.old.limit }
     {
-        if let Ok(at) = self.find(key) {
+        let hint = self.hints.number_of(key);
+        if let Ok(at) = self.find(hint, key) {
             self.take_out(at);
         }
     }
@@ -201,7 +203,7 @@ impl Table {
     }
 
     /// Puts an entry in at a place, with a number above those of all others.
-    fn put_at(&mut self, at: usize, entry: Entry)
+    fn put_at(&mut self, at: usize, entry: Entry, hint: usize)
         requires place { at ≤ length self.old.entries }
         requires room { length self.old.entries < self.old.limit }
         requires above { AllByRecursion (λ other. other.number < entry.number) self.old.entries }
@@ -211,12 +213,12 @@ impl Table {
         self.soonest = self.soonest.min(entry.until);
         self.walk = self.walk.up_to(at);
         self.last = entry.number;
-        self.hints.note(&entry.key, at);
+        self.hints.note(hint, at);
         self.slots.put(at, entry);
     }
 
     /// Puts an entry in the place of another, with a number above those of all others.
-    fn write_over(&mut self, at: usize, entry: Entry)
+    fn write_over(&mut self, at: usize, entry: Entry, hint: usize)
         requires place { at < length self.old.entries }
         requires above { AllByRecursion (λ other. other.number < entry.number) self.old.entries }
         ensures entries { self.new.entries ≡ slice_set self.old.entries at entry }
@@ -225,7 +227,7 @@ impl Table {
         self.soonest = self.soonest.min(entry.until);
         self.walk = self.walk.up_to(at);
         self.last = entry.number;
-        self.hints.note(&entry.key, at);
+        self.hints.note(hint, at);
         self.slots.set(at, entry);
     }
 
@@ -281,7 +283,8 @@ impl Table {
         ensures { IsRising key_in self.now.entries
             → result ≡ neighbour_while_kept now (find (is_of key.now) self.now.entries) }
     {
-        let Ok(at) = self.find(key) else {
+        let hint = self.hints.number_of(key);
+        let Ok(at) = self.find(hint, key) else {
             return None;
         };
         let entry = self.at(at);
@@ -328,21 +331,21 @@ impl Table {
         self.walk = Walk::none();
     }
 
-    /// The place of the entry of a key, or else that where it would go.
-    fn find(&self, key: &Address) -> Result<usize, usize>
+    /// The place of the entry of a key, or else that where it would go. The key has the hint of this number.
+    fn find(&self, hint: usize, key: &Address) -> Result<usize, usize>
         ensures within { IsSearchInRange result (length self.now.entries) }
         ensures found { IfOk result (IsAt self.now.entries key.now) }
         ensures absent { IsRising key_in self.now.entries → IfErr result (IsGap self.now.entries key.now) }
     {
-        let hint = self.hints.place_of(key);
-        if hint < usize::from(self.len()) && self.at(hint).key == *key {
-            return Ok(hint);
+        let near = self.hints.place_at(hint);
+        if near < usize::from(self.len()) && self.at(near).key == *key {
+            return Ok(near);
         }
-        self.search(key)
+        self.search(near, key)
     }
 
-    /// The same, by halves.
-    fn search(&self, key: &Address) -> Result<usize, usize>
+    /// The same, by halves, at first near a place.
+    fn search(&self, near: usize, key: &Address) -> Result<usize, usize>
         ensures within { IsSearchInRange result (length self.now.entries) }
         ensures found { IfOk result (IsAt self.now.entries key.now) }
         ensures absent { IsRising key_in self.now.entries → IfErr result (IsGap self.now.entries key.now) }
@@ -350,14 +353,28 @@ impl Table {
         let mut low = 0;
         let mut high = usize::from(self.len());
         while low < high {
-            let middle = low + (high - low) / 2;
-            match self.at(middle).key.cmp(key) {
-                Ordering::Less => low = middle + 1,
-                Ordering::Equal => return Ok(middle),
-                Ordering::Greater => high = middle,
+            let place = place_between(low, high, near);
+            match self.at(place).key.cmp(key) {
+                Ordering::Less => low = place + 1,
+                Ordering::Equal => return Ok(place),
+                Ordering::Greater => high = place,
             }
         }
         Err(low)
+    }
+}
+
+/// A place from `low` to below `high`: where nothing below is known, one near this one, and else the one in the middle.
+fn place_between(low: usize, high: usize, near: usize) -> usize
+    requires { low < high }
+    ensures { (low ≤ result) × (result < high) }
+{
+    if low == 0 && near < high {
+        near
+    } else if near == high {
+        high - 1
+    } else {
+        low + (high - low) / 2
     }
 }
 

@@ -25,28 +25,27 @@ impl Hints {
         Ok(Hints { places })
     }
 
-    /// A place at which to look for a key first.
-    pub(super) fn place_of(&self, key: &Address) -> usize {
-        match self.places.get(self.number_of(key)) {
+    /// The number of the hint of a key: of hints there are as many as a power of two.
+    pub(super) fn number_of(&self, key: &Address) -> usize {
+        scattered(key) & self.places.len().wrapping_sub(1)
+    }
+
+    /// The place that the hint of this number tells.
+    pub(super) fn place_at(&self, number: usize) -> usize {
+        match self.places.get(number) {
             Some(place) => usize::from(*place),
             None => 0,
         }
     }
 
-    /// Notes where a key stands.
-    pub(super) fn note(&mut self, key: &Address, place: usize) {
-        let number = self.number_of(key);
+    /// Notes where a key with the hint of this number stands.
+    pub(super) fn note(&mut self, number: usize, place: usize) {
         let Ok(place) = u16::try_from(place) else {
             return;
         };
         if number < self.places.len() {
             self.places[number] = place;
         }
-    }
-
-    /// The number of the hint of a key: of hints there are as many as a power of two.
-    fn number_of(&self, key: &Address) -> usize {
-        scattered(key) & self.places.len().wrapping_sub(1)
     }
 }
 

@@ -7,6 +7,9 @@ use slab::Slab;
 use std::alloc::Global;
 use std::marker::Model;
 
+/// The most slots that there may be: two octets tell them apart.
+const MOST_SLOTS: usize = 65_536;
+
 /// The entries of a table, in their order.
 ///
 /// Each stays in its slot until it is taken out: where one comes or goes, the numbers of the slots behind it move, and no entry.
@@ -16,7 +19,7 @@ pub(super) struct Slots {
     limit: u16,
     entries: Slab<Entry>,
     /// The slots that are taken, in the order of their entries.
-    order: Vec<usize>,
+    order: Vec<u16>,
 }
 
 impl Model for Slots {
@@ -30,7 +33,7 @@ impl Model for Slots {
 
     // Room for all that the limit allows was reserved when the slots were made.
     ghost invariant = { λ s. AreTaken s.entries s.order.items × (length s.order.items ≤ s.limit) × (s.limit < 2 ^ 16)
-        × (s.limit ≤ s.entries.capacity) × (s.limit ≤ vec_capacity s.order) };
+        × (s.limit ≤ s.entries.capacity) × (s.limit ≤ vec_capacity s.order) × (s.entries.capacity ≤ 2 ^ 16) };
 }
 
 impl Slots {
@@ -46,6 +49,10 @@ impl Slots {
         let Ok(entries) = Slab::with_capacity(alloc, usize::from(limit)) else {
             return Err(NoMemory);
         };
+        // More room than was asked for could give slots that two octets don't name.
+        if entries.capacity() > MOST_SLOTS {
+            return Err(NoMemory);
+        }
         let Ok(order) = Vec::with_capacity(alloc, usize::from(limit)) else {
             return Err(NoMemory);
         };
@@ -76,7 +83,7 @@ impl Slots {
         requires { place < length self.now.entries }
         ensures { slice_get self.now.entries place ≡ Some result.now }
     {
-        let slot = self.order[place];
+        let slot = usize::from(self.order[place]);
         let Some(entry) = self.entries.get(slot) else {
             unreachable!()
         };
@@ -90,7 +97,7 @@ impl Slots {
         ensures entries { self.new.entries ≡ insert self.old.entries place entry }
         ensures limit { self.new.limit ≡ self.old.limit }
     {
-        let slot = self.entries.insert_reserved(entry);
+        let slot = self.entries.insert_reserved(entry) as u16;
         let Ok(()) = self.order.insert(place, slot) else {
             unreachable!()
         };
@@ -102,9 +109,11 @@ impl Slots {
         ensures entries { self.new.entries ≡ slice_set self.old.entries place entry }
         ensures limit { self.new.limit ≡ self.old.limit }
     {
-        let slot = self.order[place];
-        self.entries.remove(slot);
-        self.order[place] = self.entries.insert_reserved(entry);
+        let slot = usize::from(self.order[place]);
+        let Some(kept) = self.entries.get_mut(slot) else {
+            unreachable!()
+        };
+        *kept = entry;
     }
 
     /// Takes the entry at a place out.
@@ -115,7 +124,7 @@ impl Slots {
         ensures limit { self.new.limit ≡ self.old.limit }
     {
         let slot = self.order.remove(place);
-        self.entries.remove(slot)
+        self.entries.remove(usize::from(slot))
     }
 
     /// Takes all out.

@@ -13,4 +13,5 @@ invariant_of-result c =
       omega arith,
       omega (arith, c.in-Ok.ensures.capacity),
       omega (arith, c.in-Ok-with_capacity.ensures.capacity),
+      omega arith,
     )

@@ -56,6 +56,7 @@ invariant_of-self c =
       c.self.invariant.2,
       omega (arith, insert.ensures.capacity, c.self.invariant.3),
       omega (arith, c.in-Ok.ensures.capacity, c.self.invariant.4),
+      omega (arith, insert.ensures.capacity, c.self.invariant.5),
     )
 
 pub returns-clause-entries : goal.returns-clause-entries

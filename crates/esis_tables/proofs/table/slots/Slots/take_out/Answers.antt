@@ -1,5 +1,5 @@
 -- The slot that stands at the place is free then.
-use Rattle.std.proofs.Common.{◌<◌, ◌∙◌, ap, arith, length, refl, sym}
+use Rattle.std.proofs.Common.{◌≡◌, ◌<◌, ◌∙◌, Some, ap, arith, length, refl, sym}
 use Rattle.std.specs.Prelude.{slice_get}
 use Rattle.std.specs.List.{remove}
 use Rattle.std.proofs.lemmas.List.Edits.{length-remove}
@@ -19,8 +19,9 @@ remove-requires c =
     let t = c.self.inside in
     let within : c.args.place < length t.order.items
     = omega (arith, c.requires, length-list (get t.entries) t.order.items c.self.invariant.0.taken, ap (λ v. length v.entries) c.self.view_is) in
-    let slot = c.remove-slot.result in
-    let at = slice_get_read t.order.items (length t.order.items) c.args.place slot refl within c.remove-slot.ensures.value in
+    let slot = c.from.result in
+    let at : slice_get t.order.items c.args.place ≡ Some slot
+    = slice_get_read t.order.items (length t.order.items) c.args.place c.remove-slot.result refl within c.remove-slot.ensures.value ∙ ap Some (sym c.from.ensures) in
     AllByRecursion-slice_get (ContainsKey t.entries) t.order.items c.args.place slot at c.self.invariant.0.taken
 
 pub invariant_of-self : goal.invariant_of-self
@@ -28,8 +29,9 @@ invariant_of-self c =
     let t = c.self.inside in
     let within : c.args.place < length t.order.items
     = omega (arith, c.requires, length-list (get t.entries) t.order.items c.self.invariant.0.taken, ap (λ v. length v.entries) c.self.view_is) in
-    let slot = c.remove-slot.result in
-    let at = slice_get_read t.order.items (length t.order.items) c.args.place slot refl within c.remove-slot.ensures.value in
+    let slot = c.from.result in
+    let at : slice_get t.order.items c.args.place ≡ Some slot
+    = slice_get_read t.order.items (length t.order.items) c.args.place c.remove-slot.result refl within c.remove-slot.ensures.value ∙ ap Some (sym c.from.ensures) in
     let items = c.remove-slot.ensures.items in
     let shorter = length-remove t.order.items c.args.place within in (
       record {
@@ -42,6 +44,7 @@ invariant_of-self c =
       c.self.invariant.2,
       omega (arith, c.remove.ensures.capacity, c.self.invariant.3),
       omega (arith, c.remove-slot.ensures.capacity, c.self.invariant.4),
+      omega (arith, c.remove.ensures.capacity, c.self.invariant.5),
     )
 
 pub returns-clause-entry : goal.returns-clause-entry
@@ -49,8 +52,9 @@ returns-clause-entry c =
     let t = c.self.inside in
     let within : c.args.place < length t.order.items
     = omega (arith, c.requires, length-list (get t.entries) t.order.items c.self.invariant.0.taken, ap (λ v. length v.entries) c.self.view_is) in
-    let slot = c.remove-slot.result in
-    let at = slice_get_read t.order.items (length t.order.items) c.args.place slot refl within c.remove-slot.ensures.value in
+    let slot = c.from.result in
+    let at : slice_get t.order.items c.args.place ≡ Some slot
+    = slice_get_read t.order.items (length t.order.items) c.args.place c.remove-slot.result refl within c.remove-slot.ensures.value ∙ ap Some (sym c.from.ensures) in
     ap (λ v. slice_get v.entries c.args.place) (sym c.self.view_is)
     ∙ list_at (get t.entries) t.order.items c.args.place slot c.self.invariant.0.taken at ∙ c.remove.ensures.value
 
@@ -59,7 +63,8 @@ returns-clause-entries c =
     let t = c.self.inside in
     let within : c.args.place < length t.order.items
     = omega (arith, c.requires, length-list (get t.entries) t.order.items c.self.invariant.0.taken, ap (λ v. length v.entries) c.self.view_is) in
-    let slot = c.remove-slot.result in
-    let at = slice_get_read t.order.items (length t.order.items) c.args.place slot refl within c.remove-slot.ensures.value in
+    let slot = c.from.result in
+    let at : slice_get t.order.items c.args.place ≡ Some slot
+    = slice_get_read t.order.items (length t.order.items) c.args.place c.remove-slot.result refl within c.remove-slot.ensures.value ∙ ap Some (sym c.from.ensures) in
     rw c.remove-slot.ensures.items (list-remove (get t.entries) (get c.remove.new.self) slot c.remove.ensures.updates.others t.order.items c.args.place
     c.self.invariant.0.apart c.self.invariant.0.taken at ∙ ap (λ v. remove v.entries c.args.place) c.self.view_is)
