@@ -16,7 +16,8 @@ pub(crate) fn give_note(note: Note, out: &mut Vec<Output>) -> Result<(), NoMemor
     ensures given { OnOk result ((moment : ℕ) → Appends moment None out.old.items out.new.items (Notes note ∷ [])) }
     ensures front { StaysInFront out.old.items out.new.items }
 {
-    out.push(Output::Note(note))?;
+    out.reserve(1)?;
+    out.push_reserved(Output::Note(note));
     Ok(())
 }
 
