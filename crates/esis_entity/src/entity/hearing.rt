@@ -213,8 +213,9 @@ impl EsisEntity {
             → Hears now self.new out.old.items out.new.items new (hears s table key neighbour.now hold)) }
         ensures front { StaysInFront out.old.items out.new.items }
     {
+        out.reserve(1)?;
         let heard = self.tables.hear(now, table, key, *neighbour, hold);
-        give_note(Note::Hear { table, key, heard }, out)?;
+        out.push_reserved(Output::Note(Note::Hear { table, key, heard }));
         Ok(matches!(heard, Heard::New))
     }
 
