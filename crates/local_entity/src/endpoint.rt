@@ -121,7 +121,7 @@ impl Endpoint {
         let Ok(request) = Request::of(kind, unit, from, to, &body) else {
             return Err(SendRefusal::NoMemory);
         };
-        let Ok(()) = out.try_reserve(2) else {
+        let Ok(()) = out.reserve_exact(2) else {
             return Err(SendRefusal::NoMemory);
         };
         let id = drawn(&mut self.pool, now, ask.segment);

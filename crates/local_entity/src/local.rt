@@ -161,7 +161,7 @@ impl Local {
         ensures table { self.new.table ≡ self.old.table }
     {
         let frame = frame.view()?;
-        let Ok(()) = out.try_reserve(3) else {
+        let Ok(()) = out.reserve_exact(3) else {
             return Err(NoMemory);
         };
         self.endpoint.discard(frame, reason, place, out);

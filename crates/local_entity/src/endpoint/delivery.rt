@@ -1,5 +1,5 @@
 //! Whole units that are handed up (ISO/IEC 8473, section 6.2).
-ghost use Rattle.std.specs.Prelude.{◌≡◌, ◌<◌, ◌^◌, List, OnOk, OnErr};
+ghost use Rattle.std.specs.Prelude.{◌≡◌, ◌<◌, ◌^◌, ◌++◌, ◌∷◌, [], List, OnOk, OnErr};
 ghost use Rattle.clnp_machine.specs.ClnpOptions.Parameter.{Parameter};
 ghost use Rattle.clnp_machine.specs.PduHeader.declared.kind.Kind.{Kind as KindOf};
 ghost use Rattle.clnp_machine.specs.Local as locally;
@@ -8,6 +8,7 @@ ghost use Rattle.clnp_machine.specs.System.{SystemState};
 ghost use Rattle.local_entity.specs.Endpoint.{StandsWith};
 ghost use Rattle.local_entity.specs.Local.{Appends};
 ghost use Rattle.local_entity.specs.Receipt.{purpose_of};
+ghost use Rattle.local_entity.specs.declared.action.Action.TheVariants.{Note as Noted};
 
 use super::Endpoint;
 use crate::action::Action;
@@ -46,22 +47,35 @@ impl Endpoint {
         ensures config { self.new.config ≡ self.old.config }
     {
         match purpose {
-            Purpose::Data => {
-                out.push(Action::Note(Note::Got { from, to, octets }))?;
-                Ok(())
-            }
-            Purpose::Report { reason, place } => {
-                out.push(Action::Note(Note::Report {
+            Purpose::Data => append(out, Note::Got { from, to, octets }),
+            Purpose::Report { reason, place } => append(
+                out,
+                Note::Report {
                     from,
                     to,
                     reason,
                     place,
                     octets,
-                }))?;
-                Ok(())
-            }
+                },
+            ),
             Purpose::Request => self.reply(alloc, now, from, to, octets.as_bytes(), out),
             Purpose::Reply => self.take_reply(from, to, octets.as_bytes(), out),
         }
     }
+}
+
+/// Appends a note, and makes room for no more than that: few units call for more actions.
+///
+/// # Errors
+///
+/// `NoMemory`: nothing changes then.
+fn append(out: &mut Vec<Action>, note: Note) -> Result<(), NoMemory>
+    ensures noted { OnOk result (out.new.items ≡ out.old.items ++ Noted note ∷ []) }
+    ensures none { OnErr result (out.new.items ≡ out.old.items) }
+{
+    let Ok(()) = out.reserve_exact(1) else {
+        return Err(NoMemory);
+    };
+    out.push_reserved(Action::Note(note));
+    Ok(())
 }

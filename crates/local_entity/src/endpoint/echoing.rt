@@ -88,7 +88,7 @@ impl Endpoint {
         ensures none { OnErr result (out.new.items ≡ out.old.items) }
         ensures config { self.new.config ≡ self.old.config }
     {
-        let Ok(()) = out.try_reserve(1) else {
+        let Ok(()) = out.reserve_exact(1) else {
             return Err(NoMemory);
         };
         let note = match self.pending.take(&from, &to, octets) {

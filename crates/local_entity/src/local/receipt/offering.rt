@@ -1,5 +1,5 @@
 //! Segments that are offered to the reassembly buffers (ISO/IEC 8473, section 6.8).
-ghost use Rattle.std.specs.Prelude.{◌≡◌, ◌≢◌, ◌≤◌, ◌<◌, ◌+◌, ◌^◌, ◌∷◌, ℕ, List, IfOk, OnOk, OnErr, vec_capacity, vec_len};
+ghost use Rattle.std.specs.Prelude.{◌≡◌, ◌≢◌, ◌≤◌, ◌<◌, ◌^◌, ◌∷◌, ℕ, false, List, IfOk, OnOk, OnErr, vec_capacity, vec_len};
 ghost use Rattle.clnp_machine.specs.ClnpOptions.Parameter.{Parameter};
 ghost use Rattle.clnp_machine.specs.ClnpOptions.Reasons.{reason_code};
 ghost use Rattle.clnp_machine.specs.ClnpViews.Extent.{seen};
@@ -8,7 +8,7 @@ ghost use Rattle.clnp_machine.specs.Reassembly.Arrival.{Arrival, data_len};
 ghost use Rattle.clnp_machine.specs.Reassembly.Buffer as buffer;
 ghost use Rattle.clnp_machine.specs.Reassembly.Buffer.{Buffer};
 ghost use Rattle.clnp_machine.specs.Reassembly.Offered.{MayCome};
-ghost use Rattle.clnp_machine.specs.Reassembly.State.{IsReady, IsWholeSlot, said};
+ghost use Rattle.clnp_machine.specs.Reassembly.State.{IsReady, IsWholeSlot, said, was_kept};
 ghost use Rattle.clnp_machine.specs.Unit.{Packet};
 ghost use Rattle.clnp_machine.specs.Content.{Content, frame_of};
 ghost use Rattle.clnp_machine.specs.System.{SystemState};
@@ -61,7 +61,7 @@ impl Local {
         ensures ready { IsReady now self.old.table → IsReady now self.new.table }
     {
         let frame = frame.view()?;
-        let Ok(()) = out.reserve(4) else {
+        let Ok(()) = out.reserve_exact(1) else {
             return Err(NoMemory);
         };
         let key = segment.key;
@@ -78,24 +78,34 @@ impl Local {
                     return Err(NoMemory);
                 };
                 self.table.release(slot);
+                Ok(())
             }
             answer => self.tell(answer, key.id, offset, frame, out),
         }
-        Ok(())
     }
 
     /// Appends what is noted of a segment that came in this frame and doesn't make its unit whole, once it is kept or not: it
     /// is discarded where it isn't kept and isn't a repeat.
-    fn tell(&mut self, answer: Accept, id: u16, offset: u16, frame: View, out: &mut Vec<Action>)
-        requires room { vec_len out.old + 4 ≤ vec_capacity out.old }
+    fn tell(
+        &mut self,
+        answer: Accept,
+        id: u16,
+        offset: u16,
+        frame: View,
+        out: &mut Vec<Action>,
+    ) -> Result<(), NoMemory>
+        requires room { vec_len out.old < vec_capacity out.old }
         requires not_whole { said answer ≢ buffer.Whole }
-        ensures stands { (s : SystemState) (content : Content) (arrival : Arrival Packet) (kept : List (Buffer Packet))
+        ensures stands { OnOk result ((s : SystemState) (content : Content) (arrival : Arrival Packet) (kept : List (Buffer Packet))
             → Stands self.old (with_answer s kept (said answer)) → frame_of content ≡ seen frame
-            → Stands self.new (locally.takes_in s content arrival kept (said answer)).after }
-        ensures actions { (s : SystemState) (content : Content) (arrival : Arrival Packet) (kept : List (Buffer Packet))
+            → Stands self.new (locally.takes_in s content arrival kept (said answer)).after) }
+        ensures actions { OnOk result ((s : SystemState) (content : Content) (arrival : Arrival Packet) (kept : List (Buffer Packet))
             → Stands self.old (with_answer s kept (said answer)) → frame_of content ≡ seen frame
             → arrival.key.id ≡ id → arrival.offset ≡ offset
-            → Appends out.old.items out.new.items (locally.takes_in s content arrival kept (said answer)).actions }
+            → Appends out.old.items out.new.items (locally.takes_in s content arrival kept (said answer)).actions) }
+        ensures refused { OnErr result (was_kept answer ≡ false) }
+        ensures same { OnErr result (self.new ≡ self.old) }
+        ensures none { OnErr result (out.new.items ≡ out.old.items) }
         ensures config { self.new.configuration ≡ self.old.configuration }
         ensures table { self.new.table ≡ self.old.table }
     {
@@ -103,38 +113,53 @@ impl Local {
             Accept::Held => {
                 let held = self.held();
                 note(out, Note::Held { id, offset, held });
+                Ok(())
             }
-            Accept::Repeat => note(out, Note::Repeat { id, offset }),
+            Accept::Repeat => {
+                note(out, Note::Repeat { id, offset });
+                Ok(())
+            }
             Accept::Interference { .. } => {
                 let reason = Reason::ReassemblyInterference;
-                self.refuse(Note::Interference { id }, reason, frame, out);
+                self.refuse(Note::Interference { id }, reason, frame, out)
             }
             Accept::NoSlot { live } => {
-                self.refuse(Note::NoSlot { live }, Reason::Congestion, frame, out);
+                self.refuse(Note::NoSlot { live }, Reason::Congestion, frame, out)
             }
             Accept::Crowded { held, size } => {
-                self.refuse(Note::Crowded { held, size }, Reason::Congestion, frame, out);
+                self.refuse(Note::Crowded { held, size }, Reason::Congestion, frame, out)
             }
             Accept::Many { kept } => {
-                self.refuse(Note::Many { kept }, Reason::Congestion, frame, out);
+                self.refuse(Note::Many { kept }, Reason::Congestion, frame, out)
             }
             Accept::Whole(_) => unreachable!(),
         }
     }
 
     /// Appends why a segment isn't kept that came in this frame, and discards it.
-    fn refuse(&mut self, why: Note, reason: Reason, frame: View, out: &mut Vec<Action>)
-        requires room { vec_len out.old + 4 ≤ vec_capacity out.old }
-        ensures stands { (s : SystemState) (content : Content) → Stands self.old s → frame_of content ≡ seen frame
-            → Stands self.new (locally.discard s content (reason_code reason) 0).after }
-        ensures actions { (s : SystemState) (content : Content) → Stands self.old s → frame_of content ≡ seen frame
+    fn refuse(
+        &mut self,
+        why: Note,
+        reason: Reason,
+        frame: View,
+        out: &mut Vec<Action>,
+    ) -> Result<(), NoMemory>
+        ensures stands { OnOk result ((s : SystemState) (content : Content) → Stands self.old s → frame_of content ≡ seen frame
+            → Stands self.new (locally.discard s content (reason_code reason) 0).after) }
+        ensures actions { OnOk result ((s : SystemState) (content : Content) → Stands self.old s → frame_of content ≡ seen frame
             → Appends out.old.items out.new.items
-            (locally.Tells why ∷ (locally.discard s content (reason_code reason) 0).actions) }
+            (locally.Tells why ∷ (locally.discard s content (reason_code reason) 0).actions)) }
+        ensures same { OnErr result (self.new ≡ self.old) }
+        ensures none { OnErr result (out.new.items ≡ out.old.items) }
         ensures config { self.new.configuration ≡ self.old.configuration }
         ensures table { self.new.table ≡ self.old.table }
     {
+        let Ok(()) = out.reserve_exact(4) else {
+            return Err(NoMemory);
+        };
         note(out, why);
         self.endpoint.discard(frame, reason.code(), 0, out);
+        Ok(())
     }
 }
 

@@ -47,6 +47,6 @@ returns-clause-actions c = λ table s stands moment.
     let id = c.drawn-id.ensures.id s stands.identifiers in
     let body = shown c.in-Ok.body c.args.body.now c.in-Ok.ensures in
     appends_making c.args.out.now.items c.send.new.out.items s u (refusal s u) answer.0
-    (subst (λ (l : List Action). Appends l c.send.new.out.items (Tells (sent_note u) ∷ Sends u ∷ [])) c.try_reserve.ensures.items
+    (subst (λ (l : List Action). Appends l c.send.new.out.items (Tells (sent_note u) ∷ Sends u ∷ [])) c.reserve_exact.ensures.items
     (c.send.ensures.actions u
     (record { kind = refl; identifier = id; source = refl; destination = refl; spells = answer.1; shown = body }) number))

@@ -15,6 +15,6 @@ returns-clause-stands c s content stands moment carried same =
 pub returns-clause-actions : goal.returns-clause-actions
 returns-clause-actions c s content stands moment carried same =
     subst (λ (before : List Action). Appends before c.discard.new.out.items (discard s content c.args.reason c.args.place).actions)
-    c.try_reserve.ensures.items
+    c.reserve_exact.ensures.items
     (c.discard.ensures.actions c.self.inside.table s content (subst (λ (e : EntityState). Stands e s) (sym c.self.view_is) stands)
     (same ∙ sym (ap (λ (e : Extent). seen e) c.in_ok-frame.ensures ∙ take-length c.args.frame.now)))

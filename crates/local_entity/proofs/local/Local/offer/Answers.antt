@@ -1,5 +1,6 @@
 use Rattle.std.proofs.Common.{◌≡◌, ◌≤◌, ℕ, List, ap, refl, sym, ◌∙◌, subst}
 use Rattle.std.proofs.Math.Seq.{take-length}
+use Rattle.std.proofs.lemmas.Result.{on_ok_weaker}
 use Rattle.clnp_machine.specs.ClnpViews.Extent.{seen}
 use Rattle.clnp_machine.specs.Reassembly.Arrival.{Arrival, arrival_of, octet_in}
 use Rattle.clnp_machine.specs.Reassembly.Buffer.{after, data_of}
@@ -84,7 +85,7 @@ returns-in-Ok-hand_up_whole-clause-actions c s content arrival stands moment sho
     whole_appends (state_of c.self.inside) c.args.now c.args.segment s content arrival here moment shows octets done.buffer
     c.args.out.now.items c.hand_up_whole.new.out.items told done.found refl
     (subst (λ (before : List Action). Appends before c.hand_up_whole.new.out.items (hand_up (record s { buffers = buffers }) arrival.carried.unit.kind
-    c.args.segment.key.from c.args.segment.key.to octets arrival.carried.options).actions) c.reserve.ensures.items
+    c.args.segment.key.from c.args.segment.key.to octets arrival.carried.options).actions) c.reserve_exact.ensures.items
     (c.in-Ok-hand_up_whole.ensures.actions (record s { buffers = buffers }) arrival.carried.unit.kind arrival.carried.options octets
     (kept_stands (state_of c.self.inside) c.args.now c.args.segment s content arrival here moment shows c.accept.new.self c.accept.ensures.limits kept)
     moment purpose (data_at c.accept.new.self c.in-Whole.slot.0 (arrival_of c.args.segment) later kept named done)))
@@ -99,31 +100,37 @@ returns-in-Ok-hand_up_whole-clause-ready c was_ready =
     (c.accept.ensures.slot c.in-Whole.slot c.in-Whole.is))
 
 pub returns-in_default-accept-clause-stands : goal.returns-in_default-accept-clause-stands
-returns-in_default-accept-clause-stands c s content arrival stands moment shows same purpose =
+returns-in_default-accept-clause-stands c =
+    on_ok_weaker c.tell.result
+    (λ told s content arrival stands moment shows same purpose.
     let here = subst (λ (e : EntityState). Stands e s) (sym c.self.view_is) stands in
     subst (λ (deed : Deed). Stands c.tell.new.self deed.after)
     (sym (offer_is (state_of c.self.inside) c.args.now c.args.segment s content arrival here moment shows (said c.accept.result)
     (c.accept.ensures.answered here.buffers here.table)))
-    (c.tell.ensures.stands s content arrival (others (state_of c.self.inside) c.args.now c.args.segment s content arrival here moment shows)
+    (told s content arrival (others (state_of c.self.inside) c.args.now c.args.segment s content arrival here moment shows)
     (told_stands (state_of c.self.inside) c.args.now c.args.segment s content arrival here moment shows c.accept.result c.accept.new.self
     (c.accept.ensures.answered here.buffers here.table) (said_not_whole c.accept.result c.in_default-accept.not-Whole) c.accept.ensures.same
     c.accept.ensures.limits (c.accept.ensures.stands here.buffers here.table))
-    (same ∙ sym (ap seen c.in_ok-frame.ensures ∙ take-length c.args.frame.now)))
+    (same ∙ sym (ap seen c.in_ok-frame.ensures ∙ take-length c.args.frame.now))))
+    c.tell.ensures.stands
 
 pub returns-in_default-accept-clause-actions : goal.returns-in_default-accept-clause-actions
-returns-in_default-accept-clause-actions c s content arrival stands moment shows same purpose =
+returns-in_default-accept-clause-actions c =
+    on_ok_weaker c.tell.result
+    (λ told s content arrival stands moment shows same purpose.
     let here = subst (λ (e : EntityState). Stands e s) (sym c.self.view_is) stands in
     subst (λ (deed : Deed). Appends c.args.out.now.items c.tell.new.out.items deed.actions)
     (sym (offer_is (state_of c.self.inside) c.args.now c.args.segment s content arrival here moment shows (said c.accept.result)
     (c.accept.ensures.answered here.buffers here.table)))
     (subst (λ (before : List Action). Appends before c.tell.new.out.items (takes_in s content arrival
-    (others (state_of c.self.inside) c.args.now c.args.segment s content arrival here moment shows) (said c.accept.result)).actions) c.reserve.ensures.items
-    (c.tell.ensures.actions s content arrival (others (state_of c.self.inside) c.args.now c.args.segment s content arrival here moment shows)
+    (others (state_of c.self.inside) c.args.now c.args.segment s content arrival here moment shows) (said c.accept.result)).actions) c.reserve_exact.ensures.items
+    (told s content arrival (others (state_of c.self.inside) c.args.now c.args.segment s content arrival here moment shows)
     (told_stands (state_of c.self.inside) c.args.now c.args.segment s content arrival here moment shows c.accept.result c.accept.new.self
     (c.accept.ensures.answered here.buffers here.table) (said_not_whole c.accept.result c.in_default-accept.not-Whole) c.accept.ensures.same
     c.accept.ensures.limits (c.accept.ensures.stands here.buffers here.table))
     (same ∙ sym (ap seen c.in_ok-frame.ensures ∙ take-length c.args.frame.now))
-    (ap (λ (a : Arrival (List ℕ)). a.key.id) (sym shows.shown)) (ap (λ (a : Arrival (List ℕ)). a.offset) (sym shows.shown))))
+    (ap (λ (a : Arrival (List ℕ)). a.key.id) (sym shows.shown)) (ap (λ (a : Arrival (List ℕ)). a.offset) (sym shows.shown)))))
+    c.tell.ensures.actions
 
 pub returns-in_default-accept-clause-ready : goal.returns-in_default-accept-clause-ready
 returns-in_default-accept-clause-ready c was_ready =

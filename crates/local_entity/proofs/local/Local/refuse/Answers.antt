@@ -1,6 +1,7 @@
-use Rattle.std.proofs.Common.{ℕ, [], ◌∷◌, refl, sym, subst}
+use Rattle.std.proofs.Common.{ℕ, List, [], ◌∷◌, refl, sym, subst}
 use Rattle.clnp_machine.specs.ClnpOptions.Reasons.{reason_code}
 use Rattle.clnp_machine.specs.Local.{Tells, discard}
+use Rattle.local_entity.specs.declared.action.Action.{Action}
 use Rattle.local_entity.specs.State.{EntityState}
 use Rattle.local_entity.specs.Local.{Appends, Stands}
 use Rattle.local_entity.proofs.Appending.{appends-more, appends-note}
@@ -9,8 +10,10 @@ use Rattle.local_entity.proofs.local.Local.refuse.Goals as goal
 pub returns-clause-actions : goal.returns-clause-actions
 returns-clause-actions c s content stands same =
     let here = subst (λ (e : EntityState). Stands e s) (sym c.self.view_is) stands in
-    appends-more c.args.out.now.items c.note.new.out.items c.discard.new.out.items (Tells c.args.why ∷ [])
+    subst (λ (before : List Action). Appends before c.discard.new.out.items (Tells c.args.why ∷ (discard s content (reason_code c.args.reason) 0).actions))
+    c.reserve_exact.ensures.items
+    (appends-more c.reserve_exact.new.self.items c.note.new.out.items c.discard.new.out.items (Tells c.args.why ∷ [])
     (discard s content (reason_code c.args.reason) 0).actions
-    (appends-note c.args.out.now.items c.note.new.out.items _ _ c.note.ensures.noted refl)
+    (appends-note c.reserve_exact.new.self.items c.note.new.out.items _ _ c.note.ensures.noted refl)
     (subst (λ (reason : ℕ). Appends c.note.new.out.items c.discard.new.out.items (discard s content reason 0).actions) c.code.ensures
-    (c.discard.ensures.actions c.self.inside.table s content here same))
+    (c.discard.ensures.actions c.self.inside.table s content here same)))
