@@ -8,6 +8,7 @@ pub mod Apart
 pub mod Kept
 pub mod Prefixes
 pub mod Numbers
+pub mod Patterns
 pub mod Injected
 pub mod Changed
 pub mod Placed

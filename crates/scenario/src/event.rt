@@ -1,4 +1,5 @@
-ghost use Rattle.std.specs.Prelude.{◌≡◌, ◌+◌, ◌/◌, ◌%◌, replicate, IfOk};
+ghost use Rattle.std.specs.Prelude.{◌≡◌, ◌+◌, ◌%◌, map, replicate, IfOk};
+ghost use Rattle.std.specs.List.{range_with_len};
 ghost use Rattle.scenario.specs.Scenario.{moves_of, octets_of};
 ghost use Rattle.scenario.specs.declared.event.Body.TheVariants.{Pattern};
 
@@ -7,6 +8,9 @@ use clnp_plan::clnp_base::{NoMemory, Octets};
 use clnp_plan::forwarding::Route;
 use clnp_plan::nsap::{Address, Prefix, Snpa, Target};
 use std::alloc::Global;
+
+/// How many octets a row of a pattern has.
+const ROW: usize = 256;
 
 /// The octets of a data unit that is to be sent, in one of the two forms in which they are written.
 #[derive(Drop)]
@@ -33,23 +37,32 @@ impl Body {
     }
 }
 
-/// The octets of a pattern.
+/// The octets of a pattern, row by row: 256 octets, each of them one more than the one before it.
 fn pattern(alloc: Global, len: u32, start: u8) -> Result<Vec<u8>, NoMemory>
     ensures { IfOk result (λ octets. octets.items ≡ octets_of (Pattern len start)) }
 {
-    let mut octets = vec![in alloc; 0u8; len as usize]?;
-    for place in 0..len {
-        octets[place as usize] = pattern_octet(place, start);
+    let all = len as usize;
+    let mut octets = Vec::with_capacity(alloc, all)?;
+    for number in 0..all.div_ceil(ROW) {
+        let first = start.wrapping_add((number % 256) as u8);
+        let row = row_from(first);
+        let more = ROW.min(all - number * ROW);
+        octets.extend_from_slice(&row[..more])?;
     }
     Ok(octets)
 }
 
-/// The octet at a place of a pattern.
-fn pattern_octet(place: u32, start: u8) -> u8
-    ensures { result ≡ (place + place / 256 + start) % 256 }
+/// A row of a pattern whose first octet is this one.
+fn row_from(first: u8) -> [u8; ROW]
+    ensures { result ≡ map (λ column. (column + first) % 256) (range_with_len 0 256) }
 {
-    let place = u64::from(place);
-    ((place + place / 256 + u64::from(start)) % 256) as u8
+    let mut row = [0; ROW];
+    let mut next = first;
+    for octet in row.iter_mut() {
+        *octet = next;
+        next = next.wrapping_add(1);
+    }
+    row
 }
 
 /// An event of a scenario; systems and subnetworks are named by their places, from 0.
