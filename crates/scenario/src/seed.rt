@@ -47,6 +47,9 @@ end
 /// How many rounds there are.
 const ROUNDS: usize = 300;
 
+/// The most events: two at the start, two in each round, and three at the end.
+const MOST_EVENTS: usize = 605;
+
 /// The scenario that a seed makes: two local networks that two routers join, and a storm of events on them, with
 /// units sent, echoes asked for, copies given again or lost, time that passes, and systems that are restarted.
 ///
@@ -91,7 +94,7 @@ fn networks(alloc: Global) -> Result<Scenario, NoMemory>
 fn events(alloc: Global, seed: u64) -> Result<Vec<Event>, NoMemory>
     ensures { IfOk result (λ events. events.items ≡ seeds.storm_events seed) }
 {
-    let mut events = Vec::new(alloc);
+    let mut events = Vec::with_capacity(alloc, MOST_EVENTS)?;
     events.push(Event::Tick { count: 1 })?;
     events.push(Event::Settle { count: 40 })?;
     let mut state = seed;

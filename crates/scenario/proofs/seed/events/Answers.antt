@@ -3,7 +3,7 @@ use Rattle.scenario.proofs.Seeded.{goes_on, all_done, and_then}
 use Rattle.scenario.proofs.seed.events.Goals as goal
 
 pub loop-init : goal.loop-init
-loop-init c = rw (c.in_ok-push-2.ensures.items, c.in_ok-push.ensures.items, c.new-events.ensures.items) refl
+loop-init c = rw (c.in_ok-push-2.ensures.items, c.in_ok-push.ensures.items, c.in_ok-events.ensures.items) refl
 
 pub loop-preserved : goal.loop-preserved
 loop-preserved c =
