@@ -20,10 +20,9 @@ use Rattle.clnp_network.specs.LabelledNetwork as network
 use Rattle.clnp_systems.specs.Stands as clnp_systems
 use Rattle.clnp_systems.specs.declared.system.System.{System}
 use Rattle.clnp_world.specs.Changing.{GoesTo, MovesPort, RemovesRoute, SetsRoute, TakesAsPort, TakesMtu, TakesWhereOn}
-use Rattle.clnp_world.specs.Lines.{Gains}
+use Rattle.clnp_world.specs.Lines.{Gains, Taken}
 use Rattle.clnp_world.specs.Parts.{Changes, Follows, Holds, IsRunning, Puts, Shows}
 use Rattle.clnp_world.specs.Stands.{StandEach}
-use Rattle.clnp_world.specs.declared.lines.Lines.{Lines}
 use Rattle.clnp_world.specs.declared.network.Network.{Network}
 use Rattle.clnp_machine.proofs.ClnpBase.Lists.{AllByRecursion-slice_get, slice_get-set, slice_set-same}
 use Rattle.clnp_machine.proofs.ClnpBase.ListSteps.{all_set, range_push}
@@ -35,7 +34,7 @@ use Rattle.clnp_world.proofs.TakeSteps.{comes_follows, is_behind, is_there, show
 
 -- A system is attached elsewhere.
 
-pub changes : (old : Network) (place : ℕ) (new : System) (change : Change) (lines : Lines) (model : network.LabelledNetwork) (system : SystemState) → Holds old model
+pub changes : (old : Network) (place : ℕ) (new : System) (change : Change) (lines : Taken) (model : network.LabelledNetwork) (system : SystemState) → Holds old model
     → slice_get model.systems place ≡ Some system → GoesTo change system new
     → Follows (with_node old place new) lines lines (network.comes model place (IsChanged change))
 changes old place new change lines model system h there goes =
@@ -57,12 +56,12 @@ changed_there model place system change there =
     (slice_get-set model.systems place after (within_get model.systems place system there))
 
 -- the line of a note of the system at a place is written
-abbrev pub WritesNote : Network → Lines → Lines → ℕ → Note → Type 0
+abbrev pub WritesNote : Network → Taken → Taken → ℕ → Note → Type 0
 WritesNote code before after place told =
     (model : network.LabelledNetwork) (system : SystemState) → Shows code model → slice_get model.systems place ≡ Some system
     → Gains before after (Noted system.moment system.configuration.name told ∷ [])
 
-changes_and_tells : (old : Network) (before after : Lines) (place : ℕ) (new : System) (change : Change) (told : Note)
+changes_and_tells : (old : Network) (before after : Taken) (place : ℕ) (new : System) (change : Change) (told : Note)
     → WritesNote (with_node old place new) before after place told
     → (model : network.LabelledNetwork) (system : SystemState) → Holds old model → slice_get model.systems place ≡ Some system → GoesTo change system new
     → Follows (with_node old place new) before after
@@ -96,7 +95,7 @@ stays_at old place new model system h there stands = record {
   behind = h.behind;
 }
 
-stays_follows : (old : Network) (place : ℕ) (new : System) (lines : Lines) (model : network.LabelledNetwork) (system : SystemState) → Holds old model
+stays_follows : (old : Network) (place : ℕ) (new : System) (lines : Taken) (model : network.LabelledNetwork) (system : SystemState) → Holds old model
     → slice_get model.systems place ≡ Some system → clnp_systems.Stands new system
     → Follows (with_node old place new) lines lines (network.nothing model)
 stays_follows old place new lines model system h there stands =
@@ -104,7 +103,7 @@ stays_follows old place new lines model system h there stands =
 
 -- A port is put on a subnetwork.
 
-abbrev pub MovesAs : Network → Network → Lines → Lines → List Subnetwork → (place number subnet : ℕ) → (snpa : List ℕ) → Type 0
+abbrev pub MovesAs : Network → Network → Taken → Taken → List Subnetwork → (place number subnet : ℕ) → (snpa : List ℕ) → Type 0
 MovesAs old code before after subnets place number subnet snpa =
     (model : network.LabelledNetwork) → Holds old model → Follows code before after (network.moves_port subnets model place number subnet snpa)
 
@@ -131,13 +130,13 @@ module _ (subnets : List Subnetwork) (place number subnet : ℕ) (snpa : List �
       ∙ ap (network.moves_port_to w place number subnet snpa mtu declared system) port
 
   -- the subnetwork wasn't declared
-  pub moves_onto_none : (code : Network) (lines : Lines) → length subnets ≤ subnet → MovesAs code code lines lines subnets place number subnet snpa
+  pub moves_onto_none : (code : Network) (lines : Taken) → length subnets ≤ subnet → MovesAs code code lines lines subnets place number subnet snpa
   moves_onto_none code lines past model h =
       subst (λ (d : Option Subnetwork). Follows code lines lines (network.moves_port_on model place number subnet snpa d (slice_get model.mtus subnet)))
       (sym (slice_get_past subnets subnet past)) (follows_nothing code lines model h)
 
   -- nor has the network it
-  pub moves_onto_no_mtu : (code : Network) (lines : Lines) → length code.mtus.items ≤ subnet → MovesAs code code lines lines subnets place number subnet snpa
+  pub moves_onto_no_mtu : (code : Network) (lines : Taken) → length code.mtus.items ≤ subnet → MovesAs code code lines lines subnets place number subnet snpa
   moves_onto_no_mtu code lines past model h =
       let none : slice_get model.mtus subnet ≡ None
       = subst (λ (mtus : List ℕ). slice_get mtus subnet ≡ None) h.shows.mtus (slice_get_past code.mtus.items subnet past) in
@@ -146,7 +145,7 @@ module _ (subnets : List Subnetwork) (place number subnet : ℕ) (snpa : List �
       (follows_nothing code lines model h)
 
   -- there is no system at the place
-  pub moves_of_none : (code : Network) (lines : Lines) → length code.systems.items ≤ place → MovesAs code code lines lines subnets place number subnet snpa
+  pub moves_of_none : (code : Network) (lines : Taken) → length code.systems.items ≤ place → MovesAs code code lines lines subnets place number subnet snpa
   moves_of_none code lines past model h =
       let same = each_length code.systems.items model.systems h.shows.systems in
       let none = slice_get_past model.systems place (omega arith) in
@@ -154,7 +153,7 @@ module _ (subnets : List Subnetwork) (place number subnet : ℕ) (snpa : List �
       (sym (of_no_system model (slice_get subnets subnet) (slice_get model.mtus subnet) none)) (follows_nothing code lines model h)
 
   -- the system has no such port
-  pub moves_no_port : (old : Network) (lines : Lines) (declared : Subnetwork) (mtu : ℕ) (node new : System)
+  pub moves_no_port : (old : Network) (lines : Taken) (declared : Subnetwork) (mtu : ℕ) (node new : System)
       → slice_get subnets subnet ≡ Some declared → slice_get old.mtus.items subnet ≡ Some mtu → slice_get old.systems.items place ≡ Some node
       → MovesPort false node new number subnet mtu snpa
       → MovesAs old (with_node old place new) lines lines subnets place number subnet snpa
@@ -167,7 +166,7 @@ module _ (subnets : List Subnetwork) (place number subnet : ℕ) (snpa : List �
       (stays_follows old place new lines model there.system h there.at has.stays)
 
   -- it is elsewhere, and its line is written
-  pub moves_there : (old : Network) (before after : Lines) (declared : Subnetwork) (mtu : ℕ) (node new : System)
+  pub moves_there : (old : Network) (before after : Taken) (declared : Subnetwork) (mtu : ℕ) (node new : System)
       → slice_get subnets subnet ≡ Some declared → slice_get old.mtus.items subnet ≡ Some mtu → slice_get old.systems.items place ≡ Some node
       → MovesPort true node new number subnet mtu snpa
       → WritesNote (with_node old place new) before after place (note.Port number declared.name snpa)
@@ -190,12 +189,12 @@ wide_at code at mtu running read =
 
 -- A route is set, or removed.
 
-abbrev pub RoutesAs : Network → Network → Lines → Lines → (place : ℕ) → Route → Type 0
+abbrev pub RoutesAs : Network → Network → Taken → Taken → (place : ℕ) → Route → Type 0
 RoutesAs old code before after place route =
     (model : network.LabelledNetwork) → Holds old model → Follows code before after (network.sets_route model place route)
 
 -- there is no system at the place
-pub routes_nowhere : (code : Network) (lines : Lines) (place : ℕ) (route : Route) → length code.systems.items ≤ place
+pub routes_nowhere : (code : Network) (lines : Taken) (place : ℕ) (route : Route) → length code.systems.items ≤ place
     → RoutesAs code code lines lines place route
 routes_nowhere code lines place route past model h =
     let same = each_length code.systems.items model.systems h.shows.systems in
@@ -211,7 +210,7 @@ sets_nothing Router w place system route past =
     (le-ltb route.port (length system.attached.ports) (past refl))
 
 -- it is a host, or has no such port
-pub routes_nothing : (old : Network) (lines : Lines) (place : ℕ) (node new : System) (route : Route) → slice_get old.systems.items place ≡ Some node
+pub routes_nothing : (old : Network) (lines : Taken) (place : ℕ) (node new : System) (route : Route) → slice_get old.systems.items place ≡ Some node
     → SetsRoute false node new route → RoutesAs old (with_node old place new) lines lines place route
 routes_nothing old lines place node new route here sets model h =
     let there = is_there old model place node h.shows here in
@@ -232,7 +231,7 @@ sets_there w place system route there router leads =
     (lt-ltb route.port (length system.attached.ports) leads)
 
 -- it is set, and its line is written
-pub routes_there : (old : Network) (before after : Lines) (place : ℕ) (node new : System) (route : Route) → slice_get old.systems.items place ≡ Some node
+pub routes_there : (old : Network) (before after : Taken) (place : ℕ) (node new : System) (route : Route) → slice_get old.systems.items place ≡ Some node
     → SetsRoute true node new route → WritesNote (with_node old place new) before after place (note.Route route.prefix)
     → RoutesAs old (with_node old place new) before after place route
 routes_there old before after place node new route here sets writes model h =
@@ -242,12 +241,12 @@ routes_there old before after place node new route here sets writes model h =
     (sym (sets_there model place there.system route there.at is.router is.leads))
     (changes_and_tells old before after place new (RouteIsSet route) (note.Route route.prefix) writes model there.system h there.at is.goes)
 
-abbrev pub UnroutesAs : Network → Network → Lines → Lines → (place : ℕ) → (prefix : List ℕ) → Type 0
+abbrev pub UnroutesAs : Network → Network → Taken → Taken → (place : ℕ) → (prefix : List ℕ) → Type 0
 UnroutesAs old code before after place prefix =
     (model : network.LabelledNetwork) → Holds old model → Follows code before after (network.removes_route model place prefix)
 
 -- there is no system at the place
-pub unroutes_nowhere : (code : Network) (lines : Lines) (place : ℕ) (prefix : List ℕ) → length code.systems.items ≤ place
+pub unroutes_nowhere : (code : Network) (lines : Taken) (place : ℕ) (prefix : List ℕ) → length code.systems.items ≤ place
     → UnroutesAs code code lines lines place prefix
 unroutes_nowhere code lines place prefix past model h =
     let same = each_length code.systems.items model.systems h.shows.systems in
@@ -261,7 +260,7 @@ removes_as w place system prefix role there is =
     ap (network.removes_route_of w place prefix) there ∙ ap (λ (r : Role). network.removes_route_as r w place system prefix) is
 
 -- it is a host
-pub unroutes_nothing : (old : Network) (lines : Lines) (place : ℕ) (node new : System) (prefix : List ℕ) → slice_get old.systems.items place ≡ Some node
+pub unroutes_nothing : (old : Network) (lines : Taken) (place : ℕ) (node new : System) (prefix : List ℕ) → slice_get old.systems.items place ≡ Some node
     → RemovesRoute None node new prefix → UnroutesAs old (with_node old place new) lines lines place prefix
 unroutes_nothing old lines place node new prefix here removes model h =
     let there = is_there old model place node h.shows here in
@@ -271,7 +270,7 @@ unroutes_nothing old lines place node new prefix here removes model h =
     (stays_follows old place new lines model there.system h there.at is.stays)
 
 -- it is removed, and a line tells whether it was there
-pub unroutes_there : (old : Network) (before after : Lines) (place : ℕ) (node new : System) (prefix : List ℕ) (was : Bool)
+pub unroutes_there : (old : Network) (before after : Taken) (place : ℕ) (node new : System) (prefix : List ℕ) (was : Bool)
     → slice_get old.systems.items place ≡ Some node → RemovesRoute (Some was) node new prefix
     → WritesNote (with_node old place new) before after place (note.Unroute prefix was)
     → UnroutesAs old (with_node old place new) before after place prefix
@@ -387,19 +386,19 @@ keeps_mtu old code at mtu wide is others model h =
       behind = h.behind;
     }
 
-abbrev pub ResizesAs : Network → Network → Lines → Lines → List Subnetwork → (subnet mtu : ℕ) → Type 0
+abbrev pub ResizesAs : Network → Network → Taken → Taken → List Subnetwork → (subnet mtu : ℕ) → Type 0
 ResizesAs old code before after subnets subnet mtu =
     (model : network.LabelledNetwork) → Holds old model → Follows code before after (network.resizes subnets model subnet mtu)
 
 -- it wasn't declared
-pub resizes_none : (code : Network) (lines : Lines) (subnets : List Subnetwork) (subnet mtu : ℕ) → length subnets ≤ subnet
+pub resizes_none : (code : Network) (lines : Taken) (subnets : List Subnetwork) (subnet mtu : ℕ) → length subnets ≤ subnet
     → ResizesAs code code lines lines subnets subnet mtu
 resizes_none code lines subnets subnet mtu past model h =
     subst (λ (d : Option Subnetwork). Follows code lines lines (network.resizes_on model subnet mtu d)) (sym (slice_get_past subnets subnet past))
     (follows_nothing code lines model h)
 
 -- it does, each port on it, too, and its line is written
-pub resizes_there : (old mid code : Network) (before after : Lines) (subnets : List Subnetwork) (subnet mtu : ℕ) (declared : Subnetwork)
+pub resizes_there : (old mid code : Network) (before after : Taken) (subnets : List Subnetwork) (subnet mtu : ℕ) (declared : Subnetwork)
     → slice_get subnets subnet ≡ Some declared → IsWithin 512 65535 mtu
     → mid.mtus.items ≡ slice_set old.mtus.items subnet mtu → mid ≡ record old { mtus = mid.mtus }
     → Changes mid code (λ w. network.resizes_each w subnet mtu (range_with_len 0 (length w.systems)))

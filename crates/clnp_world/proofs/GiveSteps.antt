@@ -11,8 +11,7 @@ use Rattle.clnp_machine.specs.Content.{IsCarried}
 use Rattle.clnp_machine.specs.System.{FrameComes, SystemState}
 use Rattle.clnp_machine.specs.Step.{step}
 use Rattle.clnp_network.specs.LabelledNetwork as network
-use Rattle.clnp_world.specs.Lines.{Gains}
-use Rattle.clnp_world.specs.declared.lines.Lines.{Lines}
+use Rattle.clnp_world.specs.Lines.{Gains, Taken}
 use Rattle.clnp_world.specs.Seen.{IsPortFor, frame_copy, origin_of}
 use Rattle.clnp_world.specs.Parts.{Shows, Holds, IsRunning, Follows}
 use Rattle.clnp_world.specs.Stands.{IsMadeWithUnit}
@@ -64,11 +63,11 @@ copy_there code model at h within =
     let same = counted code model h in
     slice_get_some model.copies at (omega arith)
 
-pub follows_nothing : (code : Network) (lines : Lines) (model : network.LabelledNetwork) → Holds code model → Follows code lines lines (network.nothing model)
+pub follows_nothing : (code : Network) (lines : Taken) (model : network.LabelledNetwork) → Holds code model → Follows code lines lines (network.nothing model)
 follows_nothing code lines model h =
     let part = puts_nothing code model lines h.shows in record { holds = h; lines = part.lines }
 
-pub follows_then : (code : Network) (before between after : Lines) (part : network.Step) (next : network.LabelledNetwork → network.Step)
+pub follows_then : (code : Network) (before between after : Taken) (part : network.Step) (next : network.LabelledNetwork → network.Step)
     → Gains before between part.lines → Follows code between after (next part.world)
     → Follows code before after (network.followed_by part next)
 follows_then code before between after part next e h =
@@ -81,7 +80,7 @@ abbrev pub numbered : ℕ → network.Copy → network.Numbered
 numbered number copy = record { number = number; copy = copy }
 
 -- a line tells by which port the copy comes to the system, and then it takes the copy in
-pub hands_over : (code : Network) (before between after : Lines) (number place : ℕ) (model : network.LabelledNetwork) (copy : network.Copy) (system : SystemState)
+pub hands_over : (code : Network) (before between after : Taken) (number place : ℕ) (model : network.LabelledNetwork) (copy : network.Copy) (system : SystemState)
     → Gains before between
     (Received system.moment system.configuration.name number (network.first_port copy system.configuration.role system.attached.ports) ∷ [])
     → Follows code between after (network.takes_effect model place (step system (network.frame_to system copy)))
@@ -97,7 +96,7 @@ TellsLate code limits at answer =
     (model : network.LabelledNetwork) (copy : network.Copy) → Shows code model → slice_get model.copies at ≡ Some copy
     → answer ≡ network.is_late limits model copy
 
-pub gives_late : (code : Network) (before after : Lines) (limits : Limits) (number at place : ℕ) → place < length code.systems.items
+pub gives_late : (code : Network) (before after : Taken) (limits : Limits) (number at place : ℕ) → place < length code.systems.items
     → TellsLate code limits at true
     → ((model : network.LabelledNetwork) (system : SystemState) → Shows code model → slice_get model.systems place ≡ Some system
     → Gains before after (Late system.moment system.configuration.name number ∷ []))
@@ -111,7 +110,7 @@ gives_late code before after limits number at place within tells writes model co
     (network.hand_to (numbered number copy) model place system.0))) (tells model copy h.shows there)
     record { holds = h; lines = part.lines })
 
-pub gives_now : (old code : Network) (before after : Lines) (limits : Limits) (number at place : ℕ) → TellsLate old limits at false
+pub gives_now : (old code : Network) (before after : Taken) (limits : Limits) (number at place : ℕ) → TellsLate old limits at false
     → (model : network.LabelledNetwork) (copy : network.Copy) (system : SystemState) → Holds old model → slice_get model.copies at ≡ Some copy
     → slice_get model.systems place ≡ Some system
     → Follows code before after (network.hand_to (numbered number copy) model place system)
@@ -128,14 +127,14 @@ TellsPort code at place found =
     → slice_get model.systems place ≡ Some system → IsPortFor copy system found
 
 -- what was done to give the copy by a port
-abbrev pub GivesBy : Network → Network → Lines → Lines → Limits → (number at place port : ℕ) → Type 0
+abbrev pub GivesBy : Network → Network → Taken → Taken → Limits → (number at place port : ℕ) → Type 0
 GivesBy old code before after limits number at place port =
     (model : network.LabelledNetwork) (copy : network.Copy) (system : SystemState) → Holds old model → slice_get model.copies at ≡ Some copy
     → slice_get model.systems place ≡ Some system
     → port ≡ network.first_port copy system.configuration.role system.attached.ports
     → Follows code before after (network.give limits (numbered number copy) model place)
 
-pub gives_by : (old code : Network) (before after : Lines) (limits : Limits) (number at place port : ℕ) → place < length old.systems.items
+pub gives_by : (old code : Network) (before after : Taken) (limits : Limits) (number at place port : ℕ) → place < length old.systems.items
     → TellsPort old at place (Some port) → GivesBy old code before after limits number at place port
     → (model : network.LabelledNetwork) (copy : network.Copy) → Holds old model → slice_get model.copies at ≡ Some copy
     → Follows code before after (network.give limits (numbered number copy) model place)
@@ -146,7 +145,7 @@ gives_by old code before after limits number at place port within tells gives mo
 -- One copy for each of its addressees.
 
 -- what the code has given of a copy, to the systems below a place, is what the model has
-abbrev pub Gives : Network → Network → Lines → Lines → Limits → ℕ → ℕ → Type 0
+abbrev pub Gives : Network → Network → Taken → Taken → Limits → ℕ → ℕ → Type 0
 Gives start code before after limits at place =
     (model : network.LabelledNetwork) (copy : network.Copy) → Holds start model → slice_get model.copies at ≡ Some copy
     → Follows code before after (network.give_each limits (numbered (at + 1) copy) model (network.addressees_from 0 copy (take place model.systems)))
@@ -163,11 +162,11 @@ tells_some code at place port tells model copy system h there here = (tells mode
 pub tells_none : (code : Network) (at place : ℕ) → TellsPort code at place None → TellsAddressee code at place false
 tells_none code at place tells model copy system h there here = tells model copy system h there here
 
-pub gives_none : (code : Network) (lines : Lines) (limits : Limits) (at : ℕ) → Gives code code lines lines limits at 0
+pub gives_none : (code : Network) (lines : Taken) (limits : Limits) (at : ℕ) → Gives code code lines lines limits at 0
 gives_none code lines limits at model copy h there = follows_nothing code lines model h
 
 -- while it is given, the network stands for one of the model
-pub still_running : (start code : Network) (before after : Lines) (limits : Limits) (at place : ℕ) → IsRunning start → at < length start.copies.items
+pub still_running : (start code : Network) (before after : Taken) (limits : Limits) (at place : ℕ) → IsRunning start → at < length start.copies.items
     → Gives start code before after limits at place → IsRunning code
 still_running start code before after limits at place running within so_far =
     let model = running.0 in
@@ -176,7 +175,7 @@ still_running start code before after limits at place running within so_far =
     ((network.give_each limits (numbered (at + 1) copy.0) model (network.addressees_from 0 copy.0 (take place model.systems))).world, part.holds)
 
 -- whether the copy is for the system at the place, when those before it have it
-tells_then : (start mid : Network) (before between : Lines) (limits : Limits) (at place : ℕ) (answer : Bool) (model : network.LabelledNetwork) (copy : network.Copy) (system : SystemState)
+tells_then : (start mid : Network) (before between : Taken) (limits : Limits) (at place : ℕ) (answer : Bool) (model : network.LabelledNetwork) (copy : network.Copy) (system : SystemState)
     → Gives start mid before between limits at place → TellsAddressee mid at place answer
     → Holds start model → slice_get model.copies at ≡ Some copy → slice_get model.systems place ≡ Some system
     → answer ≡ network.is_addressee copy system
@@ -190,7 +189,7 @@ tells_then start mid before between limits at place answer model copy system so_
     ∙ same_addressee copy now.0 system now.2
 
 -- one more system is looked at, whether the copy is for it
-addressees_next : (start mid : Network) (before between : Lines) (limits : Limits) (at place : ℕ) (answer : Bool)
+addressees_next : (start mid : Network) (before between : Taken) (limits : Limits) (at place : ℕ) (answer : Bool)
     → Gives start mid before between limits at place → place < length start.systems.items → TellsAddressee mid at place answer
     → (model : network.LabelledNetwork) (copy : network.Copy) → Holds start model → slice_get model.copies at ≡ Some copy
     → network.addressees_from 0 copy (take (place + 1) model.systems)
@@ -201,7 +200,7 @@ addressees_next start mid before between limits at place answer so_far within te
     let is = tells_then start mid before between limits at place answer model copy system.0 so_far tells h there system.1 in
     addressees_from-take copy model.systems place system.0 system.1 ∙ ap (λ (b : Bool). ps ++ cond b (place ∷ []) []) (sym is)
 
-pub gives_more : (start mid code : Network) (before between after : Lines) (limits : Limits) (at place : ℕ)
+pub gives_more : (start mid code : Network) (before between after : Taken) (limits : Limits) (at place : ℕ)
     → Gives start mid before between limits at place → place < length start.systems.items → TellsAddressee mid at place true
     → ((model : network.LabelledNetwork) (copy : network.Copy) → Holds mid model → slice_get model.copies at ≡ Some copy
     → Follows code between after (network.give limits (numbered (at + 1) copy) model place))
@@ -217,7 +216,7 @@ gives_more start mid code before between after limits at place so_far within tel
     (follows_then code before between after w (λ v. network.give limits given v place) front.lines
     (next w.world copy front.holds (copy-give_each limits given model ps at copy there)))
 
-pub gives_skip : (start code : Network) (before after : Lines) (limits : Limits) (at place : ℕ)
+pub gives_skip : (start code : Network) (before after : Taken) (limits : Limits) (at place : ℕ)
     → Gives start code before after limits at place → place < length start.systems.items → TellsAddressee code at place false
     → Gives start code before after limits at (place + 1)
 gives_skip start code before after limits at place so_far within tells model copy h there =
@@ -227,7 +226,7 @@ gives_skip start code before after limits at place so_far within tells model cop
     subst (λ (qs : List ℕ). Follows code before after (network.give_each limits (numbered (at + 1) copy) model qs)) (sym same) front
 
 -- the same where the code's names differ, as after an `if`
-pub gives_more_as : (start mid given code : Network) (before between lines after : Lines) (limits : Limits) (at place : ℕ)
+pub gives_more_as : (start mid given code : Network) (before between lines after : Taken) (limits : Limits) (at place : ℕ)
     → Gives start mid before between limits at place → place < length start.systems.items → TellsAddressee mid at place true
     → code ≡ given → after ≡ lines
     → ((model : network.LabelledNetwork) (copy : network.Copy) → Holds mid model → slice_get model.copies at ≡ Some copy
@@ -235,19 +234,19 @@ pub gives_more_as : (start mid given code : Network) (before between lines after
     → Gives start code before after limits at (place + 1)
 gives_more_as start mid given code before between lines after limits at place so_far within tells same_code same_lines next =
     subst (λ (w : Network). Gives start w before after limits at (place + 1)) (sym same_code)
-    (subst (λ (l : Lines). Gives start given before l limits at (place + 1)) (sym same_lines)
+    (subst (λ (l : Taken). Gives start given before l limits at (place + 1)) (sym same_lines)
     (gives_more start mid given before between lines limits at place so_far within tells next))
 
-pub gives_skip_as : (start mid code : Network) (before between after : Lines) (limits : Limits) (at place : ℕ)
+pub gives_skip_as : (start mid code : Network) (before between after : Taken) (limits : Limits) (at place : ℕ)
     → Gives start mid before between limits at place → place < length start.systems.items → TellsAddressee mid at place false
     → code ≡ mid → after ≡ between
     → Gives start code before after limits at (place + 1)
 gives_skip_as start mid code before between after limits at place so_far within tells same_code same_lines =
     subst (λ (w : Network). Gives start w before after limits at (place + 1)) (sym same_code)
-    (subst (λ (l : Lines). Gives start mid before l limits at (place + 1)) (sym same_lines)
+    (subst (λ (l : Taken). Gives start mid before l limits at (place + 1)) (sym same_lines)
     (gives_skip start mid before between limits at place so_far within tells))
 
-pub gives_all : (start code : Network) (before after : Lines) (limits : Limits) (at place : ℕ)
+pub gives_all : (start code : Network) (before after : Taken) (limits : Limits) (at place : ℕ)
     → Gives start code before after limits at place → length start.systems.items ≤ place
     → (model : network.LabelledNetwork) (copy : network.Copy) → Holds start model → slice_get model.copies at ≡ Some copy
     → Follows code before after (network.give_each limits (numbered (at + 1) copy) model (network.addressees_from 0 copy model.systems))
@@ -275,14 +274,14 @@ TellsGiven start at place answer =
 pub given_none : (start : Network) (at : ℕ) → TellsGiven start at 0 false
 given_none start at model copy h there = refl
 
-pub given_more : (start mid : Network) (before between : Lines) (limits : Limits) (at place : ℕ) (answer : Bool)
+pub given_more : (start mid : Network) (before between : Taken) (limits : Limits) (at place : ℕ) (answer : Bool)
     → Gives start mid before between limits at place → place < length start.systems.items → TellsAddressee mid at place true
     → answer ≡ true → TellsGiven start at (place + 1) answer
 given_more start mid before between limits at place answer so_far within tells is model copy h there =
     let same = addressees_next start mid before between limits at place true so_far within tells model copy h there in
     is ∙ sym (ap is_any same ∙ any_last (network.addressees_from 0 copy (take place model.systems)) place)
 
-pub given_skip : (start mid : Network) (before between : Lines) (limits : Limits) (at place : ℕ) (was answer : Bool)
+pub given_skip : (start mid : Network) (before between : Taken) (limits : Limits) (at place : ℕ) (was answer : Bool)
     → Gives start mid before between limits at place → place < length start.systems.items → TellsAddressee mid at place false
     → TellsGiven start at place was → answer ≡ was → TellsGiven start at (place + 1) answer
 given_skip start mid before between limits at place was answer so_far within tells given is model copy h there =
@@ -307,13 +306,13 @@ none_there [] is = refl
 none_there (place ∷ places) is = absurd (true≢false (sym is))
 
 -- what a settling comes to
-abbrev pub Settles : Network → Network → Lines → Lines → Limits → ℕ → Type 0
+abbrev pub Settles : Network → Network → Taken → Taken → Limits → ℕ → Type 0
 Settles start code before after limits at =
     (model : network.LabelledNetwork) (copy : network.Copy) → Holds start model → slice_get model.copies at ≡ Some copy
     → Follows code before after (network.settle_for limits (numbered (at + 1) copy) model (network.addressees_from 0 copy model.systems))
 
 -- the copy was given to some system
-pub settles_some : (start code : Network) (before after : Lines) (limits : Limits) (at place : ℕ) → Gives start code before after limits at place
+pub settles_some : (start code : Network) (before after : Taken) (limits : Limits) (at place : ℕ) → Gives start code before after limits at place
     → TellsGiven start at place true → length start.systems.items ≤ place → Settles start code before after limits at
 settles_some start code before after limits at place so_far given all model copy h there =
     let places = network.addressees_from 0 copy model.systems in
@@ -322,7 +321,7 @@ settles_some start code before after limits at place so_far given all model copy
     (gives_all start code before after limits at place so_far all model copy h there)
 
 -- the copy was given to none, and a line is written that says so
-pub settles_none : (start code : Network) (before between after : Lines) (limits : Limits) (at place : ℕ)
+pub settles_none : (start code : Network) (before between after : Taken) (limits : Limits) (at place : ℕ)
     → Gives start code before between limits at place → TellsGiven start at place false → length start.systems.items ≤ place
     → Gains between after (ForNobody code.clock (at + 1) ∷ []) → Settles start code before after limits at
 settles_none start code before between after limits at place so_far given all line model copy h there =
@@ -358,7 +357,7 @@ moves_on code model h = record {
 }
 
 -- the copy at the cursor is given
-pub settles : (old code : Network) (before after : Lines) (limits : Limits) → old.cursor < length old.copies.items
+pub settles : (old code : Network) (before after : Taken) (limits : Limits) → old.cursor < length old.copies.items
     → ((model : network.LabelledNetwork) (copy : network.Copy) → Holds (record old { cursor = old.cursor + 1 }) model → slice_get model.copies old.cursor ≡ Some copy
     → Follows code before after (network.settle_for limits (numbered (old.cursor + 1) copy) model (network.addressees_from 0 copy model.systems)))
     → (model : network.LabelledNetwork) → Holds old model → Follows code before after (network.settle_one limits model)
@@ -370,8 +369,16 @@ settles old code before after limits within next model h =
     (subst (λ (n : ℕ). Follows code before after (network.settle_for limits (numbered (n + 1) copy.0) w (network.addressees_from 0 copy.0 model.systems)))
     h.shows.cursor (next w copy.0 (moves_on old model h) copy.1))
 
+-- no copy is left to settle
+pub settles_no_copy : (code : Network) (lines : Taken) (limits : Limits) → length code.copies.items ≤ code.cursor
+    → (model : network.LabelledNetwork) → Holds code model → Follows code lines lines (network.settle_one limits model)
+settles_no_copy code lines limits past model h =
+    let same = counted code model h.shows in
+    let none : slice_get model.copies model.cursor ≡ None = slice_get_past model.copies model.cursor (omega (arith, h.shows.cursor)) in
+    subst (λ (c : Option network.Copy). Follows code lines lines (network.settle_copy limits model c)) (sym none) (follows_nothing code lines model h)
+
 -- no copy is left to lose
-pub loses_none : (code : Network) (lines : Lines) → length code.copies.items ≤ code.cursor
+pub loses_none : (code : Network) (lines : Taken) → length code.copies.items ≤ code.cursor
     → (model : network.LabelledNetwork) → Holds code model → Follows code lines lines (network.lose_one model)
 loses_none code lines past model h =
     let same = counted code model h.shows in
@@ -379,7 +386,7 @@ loses_none code lines past model h =
     subst (λ (c : Option network.Copy). Follows code lines lines (network.lose_copy model c)) (sym none) (follows_nothing code lines model h)
 
 -- the copy at the cursor is lost
-pub loses : (old : Network) (before after : Lines) → old.cursor < length old.copies.items
+pub loses : (old : Network) (before after : Taken) → old.cursor < length old.copies.items
     → Gains before after (Lost old.clock (old.cursor + 1) ∷ [])
     → (model : network.LabelledNetwork) → Holds old model → Follows (record old { cursor = old.cursor + 1 }) before after (network.lose_one model)
 loses old before after within line model h =
@@ -403,12 +410,12 @@ delivered limits model number at place system found at_is here there =
     ∙ ap (λ (c : Option network.Copy). network.deliver_to limits model number place c system) there
 
 -- the line of a copy that isn't there for the system at the place is written
-abbrev pub WritesVoid : Network → Lines → Lines → ℕ → ℕ → Type 0
+abbrev pub WritesVoid : Network → Taken → Taken → ℕ → ℕ → Type 0
 WritesVoid code before after number place =
     (model : network.LabelledNetwork) (system : SystemState) → Shows code model → slice_get model.systems place ≡ Some system
     → Gains before after (Void system.moment system.configuration.name number ∷ [])
 
-void_follows : (code : Network) (before after : Lines) (number place : ℕ) (model : network.LabelledNetwork) (system : SystemState)
+void_follows : (code : Network) (before after : Taken) (number place : ℕ) (model : network.LabelledNetwork) (system : SystemState)
     → WritesVoid code before after number place → Holds code model → slice_get model.systems place ≡ Some system
     → Follows code before after (network.is_void model system number)
 void_follows code before after number place model system writes h here =
@@ -416,7 +423,7 @@ void_follows code before after number place model system writes h here =
     record { holds = h; lines = part.lines }
 
 -- there is no system at the place
-pub delivers_nowhere : (code : Network) (lines : Lines) (limits : Limits) (number place : ℕ) → length code.systems.items ≤ place
+pub delivers_nowhere : (code : Network) (lines : Taken) (limits : Limits) (number place : ℕ) → length code.systems.items ≤ place
     → (model : network.LabelledNetwork) → Holds code model → Follows code lines lines (network.deliver limits model number place)
 delivers_nowhere code lines limits number place past model h =
     let same = each_length code.systems.items model.systems h.shows.systems in
@@ -425,7 +432,7 @@ delivers_nowhere code lines limits number place past model h =
     (follows_nothing code lines model h)
 
 -- there is no such copy
-pub delivers_none : (code : Network) (before after : Lines) (limits : Limits) (number at place : ℕ) → at ≡ number - 1 → place < length code.systems.items
+pub delivers_none : (code : Network) (before after : Taken) (limits : Limits) (number at place : ℕ) → at ≡ number - 1 → place < length code.systems.items
     → length code.copies.items ≤ at → WritesVoid code before after number place
     → (model : network.LabelledNetwork) → Holds code model → Follows code before after (network.deliver limits model number place)
 delivers_none code before after limits number at place at_is within past writes model h =
@@ -436,7 +443,7 @@ delivers_none code before after limits number at place at_is within past writes 
     (void_follows code before after number place model system.0 writes h system.1)
 
 -- the copy isn't for the system
-pub delivers_other : (code : Network) (before after : Lines) (limits : Limits) (number at place : ℕ) → at ≡ number - 1 → place < length code.systems.items
+pub delivers_other : (code : Network) (before after : Taken) (limits : Limits) (number at place : ℕ) → at ≡ number - 1 → place < length code.systems.items
     → at < length code.copies.items → TellsAddressee code at place false → WritesVoid code before after number place
     → (model : network.LabelledNetwork) → Holds code model → Follows code before after (network.deliver limits model number place)
 delivers_other code before after limits number at place at_is within within' tells writes model h =
@@ -448,7 +455,7 @@ delivers_other code before after limits number at place at_is within within' tel
     (void_follows code before after number place model system.0 writes h system.1))
 
 -- the copy is for the system
-pub delivers : (old code : Network) (before after : Lines) (limits : Limits) (number at place : ℕ) → at ≡ number - 1 → place < length old.systems.items
+pub delivers : (old code : Network) (before after : Taken) (limits : Limits) (number at place : ℕ) → at ≡ number - 1 → place < length old.systems.items
     → at < length old.copies.items → TellsAddressee old at place true
     → ((model : network.LabelledNetwork) (copy : network.Copy) → Holds old model → slice_get model.copies at ≡ Some copy
     → Follows code before after (network.give limits (numbered number copy) model place))

@@ -1,6 +1,7 @@
 -- What a network of the code stands for after a frame came from outside.
 use Rattle.std.proofs.Common.{◌≡◌, ◌≤◌, ◌+◌, ◌∙◌, ℕ, cond, Bool, true, false, List, [], ◌∷◌, length, Option, None, Some, refl, sym, ap, subst}
 use Rattle.std.specs.Prelude.{is_none, slice_get}
+use Rattle.std.proofs.lemmas.Option.{slice_get_past}
 use Rattle.hex.specs.Hex.{IsBytes}
 use Rattle.clnp_machine.specs.Nsap.declared.target.Target.{Target}
 use Rattle.clnp_machine.specs.EsisPdus.Reading as esis_reading
@@ -11,14 +12,14 @@ use Rattle.clnp_machine.specs.Content.{Esis, IsCarried, Labelled, Unlabelled, co
 use Rattle.clnp_machine.specs.Unit.{Outside}
 use Rattle.clnp_network.specs.LabelledNetwork as network
 use Rattle.clnp_network.specs.Scenario.Scenario.{Subnetwork}
-use Rattle.clnp_world.specs.Lines.{Gains}
-use Rattle.clnp_world.specs.declared.lines.Lines.{Lines}
+use Rattle.clnp_world.specs.Lines.{Gains, Taken}
 use Rattle.clnp_world.specs.Seen.{frame_copy, origin_of}
 use Rattle.clnp_world.specs.Stands.{IsMadeWithUnit}
 use Rattle.clnp_world.specs.Parts.{Follows, Holds, PutsCopies}
 use Rattle.clnp_world.specs.declared.network.Network.{Network}
 use Rattle.clnp_world.specs.declared.copy.FrameCopy.{FrameCopy}
 use Rattle.clnp_world.proofs.PutSteps.{counted, shows_more}
+use Rattle.clnp_world.proofs.GiveSteps.{follows_nothing}
 
 -- a unit from outside is made at the moment at which its frame comes
 born_outside : (number moment : ℕ) (octets : List ℕ) → IsMadeWithUnit (origin_of Outside moment) (content_of number moment octets)
@@ -36,10 +37,17 @@ abbrev pub outside_copy : (subnet : ℕ) (sender : List ℕ) → Target → (bir
 outside_copy subnet sender target birth octets =
     record { subnet = subnet; sender = sender; target = target; origin = record { maker = None; birth = birth }; frame = octets }
 
+-- no subnetwork was declared there
+pub injects_none : (code : Network) (lines : Taken) (subnets : List Subnetwork) (subnet : ℕ) (sender : List ℕ) (target : Target) (octets : List ℕ)
+    → length subnets ≤ subnet → (model : network.LabelledNetwork) → Holds code model → Follows code lines lines (network.injects subnets model subnet sender target octets)
+injects_none code lines subnets subnet sender target octets past model h =
+    subst (λ (d : Option Subnetwork). Follows code lines lines (network.injects_on model subnet d sender target octets)) (sym (slice_get_past subnets subnet past))
+    (follows_nothing code lines model h)
+
 -- the frame is the next copy on a subnetwork that was declared
 pub injects_there : (spells : (number moment : ℕ) (octets : List ℕ) → IsBytes octets → frame_of (content_of number moment octets) ≡ octets)
     → (carries : (number moment : ℕ) (octets : List ℕ) → IsBytes octets → IsCarried (content_of number moment octets))
-    → (old code : Network) (before after : Lines) (subnets : List Subnetwork) (subnet number : ℕ) (declared : Subnetwork)
+    → (old code : Network) (before after : Taken) (subnets : List Subnetwork) (subnet number : ℕ) (declared : Subnetwork)
     → (sender : List ℕ) (target : Target) (octets : List ℕ) → slice_get subnets subnet ≡ Some declared → IsBytes octets → length octets ≤ 70000
     → number ≡ length old.copies.items
     → Gains before after (Injected old.clock (number + 1) declared.name sender target ∷ [])

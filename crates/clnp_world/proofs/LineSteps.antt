@@ -1,13 +1,10 @@
 -- Lines that come one behind the other.
-use Rattle.std.proofs.Common.{◌≡◌, ℕ, ◌+◌, List, [], ◌++◌, codes, refl, sym, ap, subst, ◌∙◌, append-nil, append_assoc, arith}
+use Rattle.std.proofs.Common.{◌≡◌, ℕ, ◌+◌, List, [], ◌++◌, codes, refl, sym, ap, ◌∙◌, append-nil, append_assoc, arith}
 use Rattle.std.specs.Str.{bytes_eq}
 use Rattle.clnp_machine.specs.ClnpPlan.Journal.{Line}
 use Rattle.clnp_network.specs.Run.{told_lines}
-use Rattle.clnp_world.specs.Lines.{Gains, GainsIn, both, how_many, kind_of, no_lines, tally}
+use Rattle.clnp_world.specs.Lines.{Counted, Gains, Taken, Written, both, gained, how_many, kind_of, no_lines, tally}
 use Rattle.clnp_world.specs.declared.lines.Counts.{Counts}
-use Rattle.clnp_world.specs.declared.lines.Form.{Form}
-use Rattle.clnp_world.specs.declared.lines.Form.TheVariants.{Written, Counted}
-use Rattle.clnp_world.specs.declared.lines.Lines.{Lines}
 use Rattle.clnp_world.proofs.ModelSteps.{told_lines-append}
 use Rattle.clnp_machine.proofs.ClnpBase.Sums.{length_filter-append}
 
@@ -46,28 +43,19 @@ tally-append lines more =
       how_many-append (codes "expired") lines more,
     ) refl
 
-gains_nothing_in : (form : Form) (lines : Lines) → GainsIn form lines lines []
-gains_nothing_in (Written telling) lines = sym (append-nil lines.text.items)
-gains_nothing_in Counted lines = sym (both-none lines.counts)
-
 -- no lines came
-pub gains_nothing : (lines : Lines) → Gains lines lines []
-gains_nothing lines = record { form = refl; gained = gains_nothing_in lines.form lines }
+pub gains_nothing : (lines : Taken) → Gains lines lines []
+gains_nothing (Written telling text) = ap (Written telling) (sym (append-nil text))
+gains_nothing (Counted counts) = ap Counted (sym (both-none counts))
 
-gains_more_in : (form : Form) (before between after : Lines) (lines more : List Line) → GainsIn form before between lines
-    → GainsIn form between after more → GainsIn form before after (lines ++ more)
-gains_more_in (Written telling) before between after lines more g h =
-    h ∙ ap (λ (t : List ℕ). t ++ told_lines telling more) g ∙ append_assoc before.text.items (told_lines telling lines) (told_lines telling more)
-    ∙ ap (λ (t : List ℕ). before.text.items ++ t) (sym (told_lines-append telling lines more))
-gains_more_in Counted before between after lines more g h =
-    h ∙ ap (λ (c : Counts). both c (tally more)) g ∙ both-assoc before.counts (tally lines) (tally more)
-    ∙ ap (λ (c : Counts). both before.counts c) (sym (tally-append lines more))
+gained_more : (taken : Taken) (lines more : List Line) → gained (gained taken lines) more ≡ gained taken (lines ++ more)
+gained_more (Written telling text) lines more =
+    ap (Written telling) (append_assoc text (told_lines telling lines) (told_lines telling more)
+    ∙ ap (λ (t : List ℕ). text ++ t) (sym (told_lines-append telling lines more)))
+gained_more (Counted counts) lines more =
+    ap Counted (both-assoc counts (tally lines) (tally more) ∙ ap (λ (c : Counts). both counts c) (sym (tally-append lines more)))
 
 -- some lines came, and then others
-pub gains_more : (before between after : Lines) (lines more : List Line) → Gains before between lines → Gains between after more
+pub gains_more : (before between after : Taken) (lines more : List Line) → Gains before between lines → Gains between after more
     → Gains before after (lines ++ more)
-gains_more before between after lines more g h = record {
-  form = h.form ∙ g.form;
-  gained = gains_more_in before.form before between after lines more g.gained
-      (subst (λ (f : Form). GainsIn f between after more) g.form h.gained);
-}
+gains_more before between after lines more g h = h ∙ ap (λ (t : Taken). gained t more) g ∙ gained_more before lines more

@@ -25,8 +25,7 @@ use Rattle.clnp_machine.specs.Ways.{IsOwnWhereFirst}
 use Rattle.clnp_network.specs.LabelledNetwork as network
 use Rattle.clnp_systems.specs.declared.system.System.{System}
 use Rattle.clnp_machine.specs.Given.{CarriesUnit, GiveAll, Gives, frame_in}
-use Rattle.clnp_world.specs.Lines.{Gains}
-use Rattle.clnp_world.specs.declared.lines.Lines.{Lines}
+use Rattle.clnp_world.specs.Lines.{Gains, Taken}
 use Rattle.clnp_world.specs.Seen.{frame_copy, frame_copies, frames_weight, origin_of}
 use Rattle.clnp_world.specs.Stands.{IsMadeWithUnit, StandEach}
 use Rattle.clnp_world.specs.Parts.{Shows, Puts, PutsCopies}
@@ -38,18 +37,18 @@ use Rattle.clnp_world.proofs.LineSteps.{gains_nothing, gains_more}
 use Rattle.clnp_world.proofs.ModelSteps.{put_all_out-push, systems-put_all_out}
 
 -- nothing happens
-pub puts_nothing : (code : Network) (model : network.LabelledNetwork) (lines : Lines) → Shows code model → Puts code lines lines (network.nothing model)
+pub puts_nothing : (code : Network) (model : network.LabelledNetwork) (lines : Taken) → Shows code model → Puts code lines lines (network.nothing model)
 puts_nothing code model lines h = record { shows = h; lines = gains_nothing lines }
 
 -- one part, and then the next
-pub puts_then : (code : Network) (before between after : Lines) (part : network.Step) (next : network.LabelledNetwork → network.Step)
+pub puts_then : (code : Network) (before between after : Taken) (part : network.Step) (next : network.LabelledNetwork → network.Step)
     → Gains before between part.lines → Puts code between after (next part.world)
     → Puts code before after (network.followed_by part next)
 puts_then code before between after part next e h =
     record { shows = h.shows; lines = gains_more before between after part.lines (next part.world).lines e h.lines }
 
 -- nothing changes but that a line is written
-pub puts_line : (code : Network) (before after : Lines) (model : network.LabelledNetwork) (line : Line) → Shows code model → Gains before after (line ∷ [])
+pub puts_line : (code : Network) (before after : Taken) (model : network.LabelledNetwork) (line : Line) → Shows code model → Gains before after (line ∷ [])
     → Puts code before after (network.writes model line)
 puts_line code before after model line h e = record { shows = h; lines = e }
 
@@ -142,7 +141,7 @@ shows_more old code made frames seen good born short put others model h = record
 }
 
 -- a frame that stands for what it carries
-puts_frame : (old code : Network) (before after : Lines) (port : ℕ) (target : Target) (maker : Maker) (birth : ℕ) (content : Content) (system : SystemState)
+puts_frame : (old code : Network) (before after : Taken) (port : ℕ) (target : Target) (maker : Maker) (birth : ℕ) (content : Content) (system : SystemState)
     → (model : network.LabelledNetwork) → Shows old model → IsCarried content → IsMadeWithUnit (origin_of maker birth) content → length (frame_of content) ≤ 70000
     → Gains before after (Transmitted system.moment system.configuration.name (length model.copies + 1) port target (frame_of content) ∷ [])
     → PutsCopies old code (frame_copies (slice_get system.attached.ports port) target (origin_of maker birth) (frame_of content))
@@ -174,7 +173,7 @@ as_old came (Esis value following) u born same = absurd same
 as_old came (Unlabelled octets) u born same = absurd same
 
 -- the frame of a packet
-sends_packet : (old code : Network) (before after : Lines) (sending : Sending) (frame : List ℕ) (origin : Origin) (port : ℕ) (target : Target) (packet : Packet)
+sends_packet : (old code : Network) (before after : Taken) (sending : Sending) (frame : List ℕ) (origin : Origin) (port : ℕ) (target : Target) (packet : Packet)
     → frame ≡ frame_in sending
     → (model : network.LabelledNetwork) (system : SystemState) → Shows old model
     → Gains before after (Transmitted system.moment system.configuration.name (length model.copies + 1) sending.port sending.to frame ∷ [])
@@ -192,7 +191,7 @@ sends_packet old code before after sending frame origin port target packet frame
     puts_frame old code before after port target packet.unit.maker packet.unit.made (Labelled packet []) system model h carriable refl few line' put' others
 
 -- the frame that a sending is stands for an output of the model
-sends : (old code : Network) (before after : Lines) (place : ℕ) (came origin : Origin) (content : Content) (sending : Sending) (frame : List ℕ) (other : Output)
+sends : (old code : Network) (before after : Taken) (place : ℕ) (came origin : Origin) (content : Content) (sending : Sending) (frame : List ℕ) (other : Output)
     → frame ≡ frame_in sending
     → (model : network.LabelledNetwork) (system : SystemState) → Shows old model → system.place ≡ place → origin ≡ sent_origin sending came place system.moment
     → Gains before after (Transmitted system.moment system.configuration.name (length model.copies + 1) sending.port sending.to frame ∷ [])
@@ -223,7 +222,7 @@ sends old code before after place came origin content sending frame (SendsEsis p
     puts_frame old code before after port target (DeclaredAt system.place) system.moment (Esis value []) system model h gives.pdu tt few line' put' others
 
 -- an output that is a frame stands for one of the model
-pub puts_transmission : (old code : Network) (before after : Lines) (place : ℕ) (came origin : Origin) (sending : Sending) (frame : List ℕ) (out : output.Output)
+pub puts_transmission : (old code : Network) (before after : Taken) (place : ℕ) (came origin : Origin) (sending : Sending) (frame : List ℕ) (out : output.Output)
     → out ≡ Transmit sending → frame ≡ frame_in sending
     → ((model : network.LabelledNetwork) (system : SystemState) → Shows old model → slice_get model.systems place ≡ Some system
     → origin ≡ sent_origin sending came place system.moment)
@@ -241,7 +240,7 @@ puts_transmission old code before after place came origin sending frame out is f
     (subst (λ (o : output.Output). Gives system.moment (Some content) o other) is gives)
 
 -- an output that is a note stands for one of the model
-tells : (code : Network) (before after : Lines) (content : Content) (note : Note) (other : Output) (model : network.LabelledNetwork) (system : SystemState) → Shows code model
+tells : (code : Network) (before after : Taken) (content : Content) (note : Note) (other : Output) (model : network.LabelledNetwork) (system : SystemState) → Shows code model
     → Gains before after (Noted system.moment system.configuration.name note ∷ [])
     → Gives system.moment (Some content) (Told note) other → Puts code before after (network.put_out system model other)
 tells code before after content note (Transmits port target packet) model system h line gives = absurd gives
@@ -249,7 +248,7 @@ tells code before after content note (SendsEsis port target value) model system 
 tells code before after content note (Notes told) model system h line gives =
     puts_line code before after model (Noted system.moment system.configuration.name told) h (rw gives at line)
 
-pub puts_note : (code : Network) (before after : Lines) (place : ℕ) (came : Origin) (note : Note) (out : output.Output) → out ≡ Told note
+pub puts_note : (code : Network) (before after : Taken) (place : ℕ) (came : Origin) (note : Note) (out : output.Output) → out ≡ Told note
     → ((model : network.LabelledNetwork) (system : SystemState) → Shows code model → slice_get model.systems place ≡ Some system
     → Gains before after (Noted system.moment system.configuration.name note ∷ []))
     → (model : network.LabelledNetwork) (system : SystemState) (content : Content) (other : Output) → Shows code model
@@ -281,18 +280,18 @@ all_parts P [] ys h = (tt, h)
 all_parts P (x ∷ xs) ys h = let r = all_parts P xs ys h.1 in ((h.0, r.0), r.1)
 
 -- what the code has put out of a system's outputs is what the model has, where the system was given what has an origin
-abbrev pub PutsOut : Network → Network → Lines → Lines → (place : ℕ) → (came : Origin) → List output.Output → Type 0
+abbrev pub PutsOut : Network → Network → Taken → Taken → (place : ℕ) → (came : Origin) → List output.Output → Type 0
 PutsOut start code before after place came outputs =
     (model : network.LabelledNetwork) (system : SystemState) (content : Content) (others : List Output) → Shows start model
     → slice_get model.systems place ≡ Some system → IsMadeWithUnit came content → AllByRecursion (IsOwnWhereFirst system) others
     → GiveAll system.moment (Some content) outputs others → Puts code before after (network.put_all_out system model others)
 
-pub puts_none : (code : Network) (lines : Lines) (place : ℕ) (came : Origin) → PutsOut code code lines lines place came []
+pub puts_none : (code : Network) (lines : Taken) (place : ℕ) (came : Origin) → PutsOut code code lines lines place came []
 puts_none code lines place came model system content others h there born own gives =
     subst (λ (os : List Output). Puts code lines lines (network.put_all_out system model os)) (sym (no_outputs system.moment content others gives))
     (puts_nothing code model lines h)
 
-pub puts_more : (start mid code : Network) (before between after : Lines) (place : ℕ) (came : Origin) (outputs : List output.Output) (out : output.Output)
+pub puts_more : (start mid code : Network) (before between after : Taken) (place : ℕ) (came : Origin) (outputs : List output.Output) (out : output.Output)
     → PutsOut start mid before between place came outputs
     → ((model : network.LabelledNetwork) (system : SystemState) (content : Content) (other : Output) → Shows mid model
     → slice_get model.systems place ≡ Some system → IsMadeWithUnit came content → IsOwnWhereFirst system other
@@ -332,7 +331,7 @@ copies_read old code ports own i port at target origin frame e n within read put
 
 -- A line of the code's words is the one of the model's.
 
-pub same_transmission : (before after : Lines) (t u : ℕ) (name own : List ℕ) (n m port : ℕ) (target : Target) (frame octets : List ℕ)
+pub same_transmission : (before after : Taken) (t u : ℕ) (name own : List ℕ) (n m port : ℕ) (target : Target) (frame octets : List ℕ)
     → t ≡ u → name ≡ own → n ≡ m → octets ≡ frame → Gains before after (Transmitted t name (n + 1) port target octets ∷ [])
     → Gains before after (Transmitted u own (m + 1) port target frame ∷ [])
 same_transmission before after t u name own n m port target frame octets a b c d e =

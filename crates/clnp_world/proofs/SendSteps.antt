@@ -9,7 +9,7 @@ use Rattle.clnp_machine.specs.System.{SystemState, Input}
 use Rattle.clnp_systems.specs.declared.system.System.{System}
 use Rattle.clnp_network.specs.LabelledNetwork as network
 use Rattle.clnp_systems.specs.Stands.{configuration_of}
-use Rattle.clnp_world.specs.declared.lines.Lines.{Lines}
+use Rattle.clnp_world.specs.Lines.{Taken}
 use Rattle.clnp_world.specs.Parts.{Follows, Holds}
 use Rattle.clnp_world.specs.declared.network.Network.{Network}
 use Rattle.clnp_world.proofs.EachSteps.{each_length}
@@ -26,7 +26,7 @@ asked_of code place asked node role here is model h =
     ∙ ap (λ (r : Role). network.asks_role r model place asked) is
 
 -- what is asked of a host comes to it
-pub asks_host : (old code : Network) (before after : Lines) (place : ℕ) (asked : Input) (node : System)
+pub asks_host : (old code : Network) (before after : Taken) (place : ℕ) (asked : Input) (node : System)
     → slice_get old.systems.items place ≡ Some node → (configuration_of node).role ≡ Host
     → ((model : network.LabelledNetwork) → Holds old model → Follows code before after (network.comes model place asked))
     → (model : network.LabelledNetwork) → Holds old model → Follows code before after (network.asks model place asked)
@@ -34,14 +34,14 @@ asks_host old code before after place asked node here role comes model h =
     subst (λ (s : network.Step). Follows code before after s) (sym (asked_of old place asked node Host here role model h)) (comes model h)
 
 -- nothing is asked of a router
-pub asks_router : (code : Network) (lines : Lines) (place : ℕ) (asked : Input) (node : System) → slice_get code.systems.items place ≡ Some node
+pub asks_router : (code : Network) (lines : Taken) (place : ℕ) (asked : Input) (node : System) → slice_get code.systems.items place ≡ Some node
     → (configuration_of node).role ≡ Router → (model : network.LabelledNetwork) → Holds code model → Follows code lines lines (network.asks model place asked)
 asks_router code lines place asked node here role model h =
     subst (λ (s : network.Step). Follows code lines lines s) (sym (asked_of code place asked node Router here role model h))
     (follows_nothing code lines model h)
 
 -- there is no system at the place
-pub asks_nobody : (code : Network) (lines : Lines) (place : ℕ) (asked : Input) → length code.systems.items ≤ place
+pub asks_nobody : (code : Network) (lines : Taken) (place : ℕ) (asked : Input) → length code.systems.items ≤ place
     → (model : network.LabelledNetwork) → Holds code model → Follows code lines lines (network.asks model place asked)
 asks_nobody code lines place asked past model h =
     let same = each_length code.systems.items model.systems h.shows.systems in

@@ -22,7 +22,7 @@ use Rattle.clnp_machine.specs.Content.{Content, Unlabelled}
 use Rattle.clnp_machine.specs.Unit.{DeclaredAt}
 use Rattle.clnp_machine.specs.Ways.{IsOwnWhereFirst}
 use Rattle.clnp_machine.specs.Given.{Appends, GiveAll}
-use Rattle.clnp_world.specs.declared.lines.Lines.{Lines}
+use Rattle.clnp_world.specs.Lines.{Taken}
 use Rattle.clnp_world.specs.Parts.{Shows, Holds, IsTimely, Puts, Follows}
 use Rattle.clnp_world.specs.Stands.{IsMadeWithUnit}
 use Rattle.clnp_world.specs.declared.copy.Origin.{Origin}
@@ -72,7 +72,7 @@ abbrev pub no_frame : Content
 no_frame = Unlabelled []
 
 -- a system takes a step, and what it gives out is put out
-pub takes : (old code : Network) (before after : Lines) (place : ℕ) (came : Origin) (content : Content) (node : System) (outputs : List output.Output) (effect : Effect)
+pub takes : (old code : Network) (before after : Taken) (place : ℕ) (came : Origin) (content : Content) (node : System) (outputs : List output.Output) (effect : Effect)
     → place < length old.systems.items → clnp_systems.Stands node effect.after → effect.after.place ≡ place → IsMadeWithUnit came content
     → AllByRecursion (IsOwnWhereFirst effect.after) effect.outputs
     → Appends effect.after.moment (Some content) [] outputs effect.outputs
@@ -118,7 +118,7 @@ own_behind s t same outputs own = AllByRecursion-implies (IsOwnWhereFirst s) (Is
     one (machine.Notes note) h = tt
 
 -- the system takes a step, and what it gives out is put out
-comes_in : OwnTransmissions → (old code : Network) (before after : Lines) (place : ℕ) (came : Origin) (content : Content) (input : Input) (role : Role) (node new : System)
+comes_in : OwnTransmissions → (old code : Network) (before after : Taken) (place : ℕ) (came : Origin) (content : Content) (input : Input) (role : Role) (node new : System)
     (empty outputs : List output.Output) → slice_get old.systems.items place ≡ Some node → empty ≡ []
     → TakesStep role (input_with content input) (entity_of node) (entity_of new) empty outputs
     → PutsOut (with_node old place new) code before after place came outputs
@@ -140,7 +140,7 @@ comes_in own old code before after place came content input role node new empty 
     puts model h)
 
 -- there is no system at the place
-comes_nowhere : (code : Network) (lines : Lines) (place : ℕ) → length code.systems.items ≤ place
+comes_nowhere : (code : Network) (lines : Taken) (place : ℕ) → length code.systems.items ≤ place
     → (model : network.LabelledNetwork) (input : machine.Input) → Shows code model → Puts code lines lines (network.comes model place input)
 comes_nowhere code lines place past model input h =
     let same = each_length code.systems.items model.systems h.systems in
@@ -153,7 +153,7 @@ stays_behind model place input None behind now = behind
 stays_behind model place input (Some s) behind now = behind-takes_effect model place (step s input) behind (now s refl)
 
 -- what comes where its moment isn't ahead leaves all clocks so
-pub comes_follows : (old code : Network) (before after : Lines) (place : ℕ) (input : machine.Input) (model : network.LabelledNetwork) → Holds old model
+pub comes_follows : (old code : Network) (before after : Taken) (place : ℕ) (input : machine.Input) (model : network.LabelledNetwork) → Holds old model
     → IsTimely model place input → Puts code before after (network.comes model place input) → Follows code before after (network.comes model place input)
 comes_follows old code before after place input model h timely puts = record {
   holds = record {
@@ -165,7 +165,7 @@ comes_follows old code before after place input model h timely puts = record {
 }
 
 -- what comes to a system
-pub comes_there : OwnTransmissions → (old code : Network) (before after : Lines) (place : ℕ) (came : Origin) (content : Content) (input : Input) (role : Role) (node new : System)
+pub comes_there : OwnTransmissions → (old code : Network) (before after : Taken) (place : ℕ) (came : Origin) (content : Content) (input : Input) (role : Role) (node new : System)
     (empty outputs : List output.Output) → slice_get old.systems.items place ≡ Some node → empty ≡ []
     → TakesStep role (input_with content input) (entity_of node) (entity_of new) empty outputs
     → PutsOut (with_node old place new) code before after place came outputs
@@ -176,7 +176,7 @@ comes_there own old code before after place came content input role node new emp
     (comes_in own old code before after place came content input role node new empty outputs here none took puts model h.shows born)
 
 -- and where there is none
-pub comes_to_none : (code : Network) (lines : Lines) (place : ℕ) → length code.systems.items ≤ place
+pub comes_to_none : (code : Network) (lines : Taken) (place : ℕ) → length code.systems.items ≤ place
     → (model : network.LabelledNetwork) (input : machine.Input) → Holds code model → IsTimely model place input
     → Follows code lines lines (network.comes model place input)
 comes_to_none code lines place past model input h timely =

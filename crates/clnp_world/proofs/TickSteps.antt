@@ -10,8 +10,8 @@ use Rattle.clnp_network.specs.Clocks.{NoneIsAhead}
 use Rattle.clnp_network.specs.LabelledNetwork as network
 use Rattle.clnp_systems.specs.declared.system.System.{System}
 use Rattle.clnp_systems.specs.Stands.{entity_of}
-use Rattle.clnp_world.specs.declared.lines.Lines.{Lines}
 use Rattle.clnp_world.specs.Seen.{place_of}
+use Rattle.clnp_world.specs.Lines.{Taken}
 use Rattle.clnp_world.specs.Parts.{Shows, MayGoOn, IsTimely, IsRunning, Holds, Follows}
 use Rattle.clnp_world.specs.declared.network.Network.{Network}
 use Rattle.clnp_machine.proofs.ClnpBase.Lists.{AllByRecursion-implies, AllByRecursion-slice_get, slice_get-set_other}
@@ -97,7 +97,7 @@ next_may_come code place moment now node running tells next early here =
     let may = running.2 there.system there.at in
     (omega (arith, there.stands.parts.moment, same, next), omega (arith, h.clock, same, may, early, next))
 
-pub goes_on_there : (old code : Network) (before after : Lines) (place moment now : ℕ) → place < length old.systems.items → TellsMoment old place moment
+pub goes_on_there : (old code : Network) (before after : Taken) (place moment now : ℕ) → place < length old.systems.items → TellsMoment old place moment
     → now ≡ moment + 1
     → ((model : network.LabelledNetwork) → Holds old model → IsTimely model place (MomentComes now)
     → Follows code before after (network.comes model place (MomentComes now)))
@@ -136,19 +136,19 @@ clock_stays w place (Some system) = comes_at_clock w place (MomentComes (system.
 -- One system after another.
 
 -- the code's network when the clocks of the systems below a place went on: those of the others may
-pub record Ticked (code : Network) (before after : Lines) (part : network.Step) (place : ℕ) : Type 0 where
+pub record Ticked (code : Network) (before after : Taken) (part : network.Step) (place : ℕ) : Type 0 where
   pub follows : Follows code before after part
   pub next : (other : ℕ) → place ≤ other → MayGoOn part.world other
 
-abbrev pub TicksTo : Network → Network → Lines → Lines → ℕ → Type 0
+abbrev pub TicksTo : Network → Network → Taken → Taken → ℕ → Type 0
 TicksTo start code before after place =
     (model : network.LabelledNetwork) → Holds start model → ((other : ℕ) → MayGoOn model other)
     → Ticked code before after (network.tick_each model (range_with_len 0 place)) place
 
-pub ticks_none : (code : Network) (lines : Lines) → TicksTo code code lines lines 0
+pub ticks_none : (code : Network) (lines : Taken) → TicksTo code code lines lines 0
 ticks_none code lines model h may = record { follows = follows_nothing code lines model h; next = λ other past. may other }
 
-pub ticks_more : (start mid code : Network) (before between after : Lines) (place : ℕ) → TicksTo start mid before between place
+pub ticks_more : (start mid code : Network) (before between after : Taken) (place : ℕ) → TicksTo start mid before between place
     → ((model : network.LabelledNetwork) → Holds mid model → MayGoOn model place → Follows code between after (tick_at model place))
     → TicksTo start code before after (place + 1)
 ticks_more start mid code before between after place so_far one model h may =
@@ -166,14 +166,14 @@ ticks_more start mid code before between after place so_far one model h may =
     }
 
 -- the next system's clock may go on
-pub next_may : (start code : Network) (before after : Lines) (place : ℕ)
+pub next_may : (start code : Network) (before after : Taken) (place : ℕ)
     → (model : network.LabelledNetwork) × Holds start model × ((other : ℕ) → MayGoOn model other) → TicksTo start code before after place
     → (model : network.LabelledNetwork) × Holds code model × MayGoOn model place
 next_may start code before after place running so_far =
     let part = so_far running.0 running.1 running.2 in
     ((network.tick_each running.0 (range_with_len 0 place)).world, part.follows.holds, part.next place (omega arith))
 
-pub ticks_all : (start code : Network) (before after : Lines) (place : ℕ) → TicksTo start code before after place → place ≡ length start.systems.items
+pub ticks_all : (start code : Network) (before after : Taken) (place : ℕ) → TicksTo start code before after place → place ≡ length start.systems.items
     → (model : network.LabelledNetwork) → Holds start model → ((other : ℕ) → MayGoOn model other)
     → Follows code before after (network.tick_each model (range_with_len 0 (length model.systems)))
 ticks_all start code before after place so_far all model h may =
@@ -183,7 +183,7 @@ ticks_all start code before after place so_far all model h may =
 -- The clock of one system alone, and the network's where it is passed.
 
 -- there is no system at the place
-pub ticks_nobody : (code : Network) (lines : Lines) (place : ℕ) → length code.systems.items ≤ place
+pub ticks_nobody : (code : Network) (lines : Taken) (place : ℕ) → length code.systems.items ≤ place
     → (model : network.LabelledNetwork) → Holds code model → Follows code lines lines (network.tick_system model place)
 ticks_nobody code lines place past model h =
     let same = each_length code.systems.items model.systems h.shows.systems in
@@ -215,7 +215,7 @@ alone_may model place system there other at =
     let one : system ≡ other = cc in
     subst (λ (s : SystemState). s.moment + 1 ≤ max model.clock (system.moment + 1)) one (passes model.clock (system.moment + 1))
 
-pub ticks_alone : (old code : Network) (before after : Lines) (place moment now : ℕ) → place < length old.systems.items → TellsMoment old place moment
+pub ticks_alone : (old code : Network) (before after : Taken) (place moment now : ℕ) → place < length old.systems.items → TellsMoment old place moment
     → now ≡ max old.clock (moment + 1)
     → ((model : network.LabelledNetwork) → Holds (record old { clock = now }) model → MayGoOn model place
     → Follows code before after (network.goes_on model place (slice_get model.systems place)))

@@ -5,9 +5,21 @@ use Rattle.std.specs.Str.{bytes_eq}
 use Rattle.clnp_machine.specs.ClnpPlan.Journal.{Line, Noted, Transmitted, Void, Late, Injected, Resized, Received, Lost, ForNobody, note_words}
 use Rattle.clnp_network.specs.Run.{told_lines}
 use Rattle.clnp_world.specs.declared.lines.Counts.{Counts}
-use Rattle.clnp_world.specs.declared.lines.Form.{Form}
-use Rattle.clnp_world.specs.declared.lines.Form.TheVariants.{Written, Counted}
-use Rattle.clnp_world.specs.declared.lines.Lines.{Lines}
+use Rattle.clnp_world.specs.declared.lines.Line as lines
+use Rattle.clnp_world.specs.declared.lines.Line.TheVariants as code
+use Rattle.clnp_machine.specs.ClnpPlan.declared.journal.Telling.{Telling}
+
+-- a line of the code
+abbrev pub told_of : lines.Line → Line
+told_of (code.Noted now name note) = Noted now name.now note.now
+told_of (code.Transmitted now name copy port target frame) = Transmitted now name.now copy port target frame.now
+told_of (code.Void now name copy) = Void now name.now copy
+told_of (code.Late now name copy) = Late now name.now copy
+told_of (code.Injected now copy subnet sender target) = Injected now copy subnet.now sender.now target.now
+told_of (code.Resized now subnet mtu) = Resized now subnet.now mtu
+told_of (code.Received now name copy port) = Received now name.now copy port
+told_of (code.Lost now copy) = Lost now copy
+told_of (code.ForNobody now copy) = ForNobody now copy
 
 -- the first of some words; no octets where there is none
 abbrev pub first_of : List (List ℕ) → List ℕ
@@ -58,12 +70,16 @@ abbrev pub IsTooGreat : Counts → Type 0
 IsTooGreat counts =
     (2 ^ 64 ≤ counts.got) ⊎ ((2 ^ 64 ≤ counts.reports) ⊎ ((2 ^ 64 ≤ counts.echoed) ⊎ ((2 ^ 64 ≤ counts.drops) ⊎ (2 ^ 64 ≤ counts.expired))))
 
--- some lines came to what there was: their text in a journal or in a trace stands behind it, or they were counted
-abbrev pub GainsIn : Form → (before after : Lines) → List Line → Type 0
-GainsIn (Written telling) before after lines = after.text.items ≡ before.text.items ++ told_lines telling lines
-GainsIn Counted before after lines = after.counts ≡ both before.counts (tally lines)
+-- what takes lines, as a contract sees it: the text of all that came, in a journal or in a trace, or what is counted of them
+pub data Taken : Type 0 where
+  Written : Telling → (text : List ℕ) → Taken
+  Counted : Counts → Taken
 
--- and so it stays with all that come
-pub record Gains (before after : Lines) (lines : List Line) : Type 0 where
-  pub form : after.form ≡ before.form
-  pub gained : GainsIn before.form before after lines
+-- what there is once some lines came
+abbrev pub gained : Taken → List Line → Taken
+gained (Written telling text) lines = Written telling (text ++ told_lines telling lines)
+gained (Counted counts) lines = Counted (both counts (tally lines))
+
+-- exactly some lines came
+abbrev pub Gains : (before after : Taken) → List Line → Type 0
+Gains before after lines = after ≡ gained before lines

@@ -3,14 +3,11 @@ use Rattle.std.specs.Prelude.{◌≡◌, ◌≤◌, ◌+◌, ℕ, List, ◌++◌
 use Rattle.clnp_machine.specs.System.{Input, SystemState}
 use Rattle.clnp_systems.specs.SystemEntity.Steps.{moment_at}
 use Rattle.clnp_network.specs.LabelledNetwork as network
-use Rattle.clnp_machine.specs.ClnpPlan.declared.journal.Telling.{Telling}
-use Rattle.clnp_network.specs.Run.{told_lines}
-use Rattle.clnp_world.specs.Lines.{Gains}
+use Rattle.clnp_world.specs.Lines.{Gains, Taken}
 use Rattle.clnp_world.specs.Seen.{frames_weight}
 use Rattle.clnp_world.specs.State.{NetworkState}
 use Rattle.clnp_world.specs.Stands as seen
 use Rattle.clnp_world.specs.declared.copy.FrameCopy.{FrameCopy}
-use Rattle.clnp_world.specs.declared.lines.Lines.{Lines}
 use Rattle.clnp_world.specs.declared.network.Network.{Network}
 
 -- what a contract sees of the network of the code
@@ -46,24 +43,19 @@ abbrev pub IsRunning : Network → Type 0
 IsRunning code = (model : network.LabelledNetwork) × Holds code model
 
 -- the network and its lines are those after a part of a move, whatever the clocks of its systems
-pub record Puts (code : Network) (before after : Lines) (part : network.Step) : Type 0 where
+pub record Puts (code : Network) (before after : Taken) (part : network.Step) : Type 0 where
   pub shows : Shows code part.world
   pub lines : Gains before after part.lines
 
 -- the network and its lines are those after a part of a move
-pub record Follows (code : Network) (before after : Lines) (part : network.Step) : Type 0 where
+pub record Follows (code : Network) (before after : Taken) (part : network.Step) : Type 0 where
   pub holds : Holds code part.world
   pub lines : Gains before after part.lines
-
--- the network and the text of a journal or of a trace are those after a part of a move
-pub record FollowsIn (telling : Telling) (code : Network) (before after : List ℕ) (part : network.Step) : Type 0 where
-  pub holds : Holds code part.world
-  pub text : after ≡ before ++ told_lines telling part.lines
 
 -- a part of a move that writes no lines was done
 abbrev pub Changes : Network → Network → (network.LabelledNetwork → network.Step) → Type 0
 Changes before after part =
-    (model : network.LabelledNetwork) (lines : Lines) → Holds before model → Follows after lines lines (part model)
+    (model : network.LabelledNetwork) (lines : Taken) → Holds before model → Follows after lines lines (part model)
 
 -- some copies were put behind the others, and weighed
 pub record PutsCopies (before after : Network) (made : List FrameCopy) : Type 0 where

@@ -6,6 +6,7 @@ pub mod laws;
 mod lines;
 mod network;
 mod world;
+mod writing;
 
 pub use clnp_network::scenarios;
 pub use clnp_network::scenarios::Move;

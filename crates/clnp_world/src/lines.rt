@@ -1,15 +1,85 @@
-//! Where the lines of a move go.
-ghost use Rattle.std.specs.Prelude.{◌≡◌, ◌+◌, ◌∷◌, ℕ, List, [], IfNone, IfSome, OnOk};
-ghost use Rattle.clnp_machine.specs.ClnpPlan.Journal.{ForNobody, Injected, Late, Lost, Noted, Received, Resized, Transmitted, Void};
-ghost use Rattle.clnp_world.specs.Lines.{Gains, IsTooGreat, both, no_lines, tally};
+//! The lines of moves, and what takes them.
+ghost use Rattle.std.specs.Prelude.{◌≡◌, ◌∷◌, ℕ, List, [], IfNone, IfSome, OnOk};
+ghost use Rattle.clnp_machine.specs.ClnpPlan.Journal.{Noted};
+ghost use Rattle.clnp_world.specs.Lines.{Counted, Gains, IsTooGreat, Taken, both, no_lines, tally, told_of};
 
 use clnp_machine::clnp_base::NoMemory;
 use clnp_machine::nsap::{Snpa, Target};
-use clnp_machine::system_plan::{
-    Note, Telling, injection_text, journal_text, late_text, loss_text, nobody_text, receipt_text,
-    resize_text, transmission_text, void_text,
-};
+use clnp_machine::system_plan::Note;
 use std::alloc::Global;
+
+/// A line of a journal or of a trace, at a moment.
+#[derive(Clone, Copy)]
+pub(crate) enum Line<'a> {
+    /// A system's note.
+    Noted {
+        now: u64,
+        name: &'a [u8],
+        note: &'a Note,
+    },
+    /// A frame that a system transmits on a port, as the copy with a number.
+    Transmitted {
+        now: u64,
+        name: &'a [u8],
+        copy: u64,
+        port: u8,
+        target: Target,
+        frame: &'a [u8],
+    },
+    /// A copy that isn't there for a system to be given.
+    Void {
+        now: u64,
+        name: &'a [u8],
+        copy: u32,
+    },
+    /// A copy that is too old for a system to be given.
+    Late {
+        now: u64,
+        name: &'a [u8],
+        copy: u64,
+    },
+    /// A frame from outside that becomes the copy with a number on a subnetwork.
+    Injected {
+        now: u64,
+        copy: u64,
+        subnet: &'a [u8],
+        sender: &'a Snpa,
+        target: &'a Target,
+    },
+    /// A subnetwork that takes frames of so many octets from now on.
+    Resized {
+        now: u64,
+        subnet: &'a [u8],
+        mtu: u16,
+    },
+    /// A copy that comes to a system on a port.
+    Received {
+        now: u64,
+        name: &'a [u8],
+        copy: u64,
+        port: u8,
+    },
+    /// A copy that is lost.
+    Lost {
+        now: u64,
+        copy: u64,
+    },
+    /// A copy that is settled and is for nobody.
+    ForNobody {
+        now: u64,
+        copy: u64,
+    },
+}
+
+/// Where the lines of moves go.
+pub(crate) trait LineSink {
+    // What there is of all lines that came.
+    ghost taken: { Self → Taken };
+
+    /// Takes a line.
+    fn take(&mut self, alloc: Global, line: &Line<'_>) -> Result<(), NoMemory>
+        ensures { OnOk result (Gains (taken self.old) (taken self.new) (told_of line.now ∷ [])) };
+}
 
 /// How many lines of some kinds a journal has.
 #[derive(Clone, Copy, Debug, PartialEq, Eq)]
@@ -71,186 +141,18 @@ impl Counts {
     }
 }
 
-/// What becomes of the lines of a move.
-#[derive(Clone, Copy)]
-pub(crate) enum Form {
-    /// Their text in a journal or in a trace is written, behind that of others.
-    Written(Telling),
-    /// They are counted by their kinds, and there is no text.
-    Counted,
-}
+/// Lines are counted by their kinds, and their text is written nowhere.
+impl LineSink for Counts {
+    ghost taken = { λ counts. Counted counts };
 
-/// The lines of a move, and of the moves before it.
-#[derive(Drop)]
-pub(crate) struct Lines {
-    pub(crate) form: Form,
-    /// Their text, where it is written.
-    pub(crate) text: Vec<u8>,
-    /// How many they are of some kinds, where they are counted.
-    pub(crate) counts: Counts,
-}
-
-impl Lines {
-    /// A system's note.
-    pub(crate) fn note(
-        &mut self,
-        alloc: Global,
-        now: u64,
-        name: &[u8],
-        note: &Note,
-    ) -> Result<(), NoMemory>
-        ensures { OnOk result (Gains self.old self.new (Noted now name.now note.now ∷ [])) }
-    {
-        match self.form {
-            Form::Written(_) => journal_text(alloc, now, name, note, &mut self.text),
-            Form::Counted => self.count(note),
-        }
-    }
-
-    /// A frame that a system transmits on a port, as the copy with a number.
-    pub(crate) fn transmission(
-        &mut self,
-        alloc: Global,
-        now: u64,
-        name: &[u8],
-        copy: u64,
-        port: u8,
-        target: Target,
-        frame: &[u8],
-    ) -> Result<(), NoMemory>
-        ensures { OnOk result (Gains self.old self.new (Transmitted now name.now copy port target frame.now ∷ [])) }
-    {
-        match self.form {
-            Form::Written(_) => transmission_text(
-                alloc,
-                now,
-                name,
-                copy,
-                port,
-                target,
-                frame,
-                &mut self.text,
-            ),
-            Form::Counted => Ok(()),
-        }
-    }
-
-    /// A copy that isn't there for a system to be given.
-    pub(crate) fn void(
-        &mut self,
-        alloc: Global,
-        now: u64,
-        name: &[u8],
-        copy: u32,
-    ) -> Result<(), NoMemory>
-        ensures { OnOk result (Gains self.old self.new (Void now name.now copy ∷ [])) }
-    {
-        match self.form {
-            Form::Written(_) => void_text(alloc, now, name, copy, &mut self.text),
-            Form::Counted => Ok(()),
-        }
-    }
-
-    /// A copy that is too old for a system to be given.
-    pub(crate) fn late(
-        &mut self,
-        alloc: Global,
-        now: u64,
-        name: &[u8],
-        copy: u64,
-    ) -> Result<(), NoMemory>
-        ensures { OnOk result (Gains self.old self.new (Late now name.now copy ∷ [])) }
-    {
-        match self.form {
-            Form::Written(_) => late_text(alloc, now, name, copy, &mut self.text),
-            Form::Counted => Ok(()),
-        }
-    }
-
-    /// A frame from outside that becomes the copy with a number on a subnetwork.
-    pub(crate) fn injection(
-        &mut self,
-        alloc: Global,
-        now: u64,
-        copy: u64,
-        subnet: &[u8],
-        sender: &Snpa,
-        target: &Target,
-    ) -> Result<(), NoMemory>
-        ensures { OnOk result (Gains self.old self.new (Injected now copy subnet.now sender.now target.now ∷ [])) }
-    {
-        match self.form {
-            Form::Written(_) => {
-                injection_text(alloc, now, copy, subnet, sender, target, &mut self.text)
-            }
-            Form::Counted => Ok(()),
-        }
-    }
-
-    /// A subnetwork that takes frames of so many octets from now on.
-    pub(crate) fn resizing(
-        &mut self,
-        alloc: Global,
-        now: u64,
-        subnet: &[u8],
-        mtu: u16,
-    ) -> Result<(), NoMemory>
-        ensures { OnOk result (Gains self.old self.new (Resized now subnet.now mtu ∷ [])) }
-    {
-        match self.form {
-            Form::Written(_) => resize_text(alloc, now, subnet, mtu, &mut self.text),
-            Form::Counted => Ok(()),
-        }
-    }
-
-    /// A copy that comes to a system on a port.
-    pub(crate) fn receipt(
-        &mut self,
-        alloc: Global,
-        now: u64,
-        name: &[u8],
-        copy: u64,
-        port: u8,
-    ) -> Result<(), NoMemory>
-        ensures { OnOk result (Gains self.old self.new (Received now name.now copy port ∷ [])) }
-    {
-        match self.form {
-            Form::Written(Telling::Trace) => {
-                receipt_text(alloc, now, name, copy, port, &mut self.text)
-            }
-            Form::Written(Telling::Journal) | Form::Counted => Ok(()),
-        }
-    }
-
-    /// A copy that is lost.
-    pub(crate) fn loss(&mut self, alloc: Global, now: u64, copy: u64) -> Result<(), NoMemory>
-        ensures { OnOk result (Gains self.old self.new (Lost now copy ∷ [])) }
-    {
-        match self.form {
-            Form::Written(Telling::Trace) => loss_text(alloc, now, copy, &mut self.text),
-            Form::Written(Telling::Journal) | Form::Counted => Ok(()),
-        }
-    }
-
-    /// A copy that is settled and is for nobody.
-    pub(crate) fn nobody(&mut self, alloc: Global, now: u64, copy: u64) -> Result<(), NoMemory>
-        ensures { OnOk result (Gains self.old self.new (ForNobody now copy ∷ [])) }
-    {
-        match self.form {
-            Form::Written(Telling::Trace) => nobody_text(alloc, now, copy, &mut self.text),
-            Form::Written(Telling::Journal) | Form::Counted => Ok(()),
-        }
-    }
-
-    /// Counts a system's note.
-    fn count(&mut self, note: &Note) -> Result<(), NoMemory>
-        ensures { OnOk result ((now : ℕ) (name : List ℕ)
-            → self.new ≡ record self.old { counts = both self.old.counts (tally (Noted now name note.now ∷ [])) }) }
-    {
-        let Some(counts) = self.counts.with_note(note) else {
+    fn take(&mut self, _alloc: Global, line: &Line<'_>) -> Result<(), NoMemory> {
+        let Line::Noted { note, .. } = *line else {
+            return Ok(());
+        };
+        let Some(counts) = self.with_note(note) else {
             return Err(NoMemory);
         };
-        self.counts = counts;
+        *self = counts;
         Ok(())
     }
 }

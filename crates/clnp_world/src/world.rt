@@ -7,21 +7,23 @@ ghost use Rattle.clnp_machine.specs.ClnpPlan.declared.config.Role.TheVariants as
 ghost use Rattle.clnp_systems.specs.Stands.{configuration_of};
 ghost use Rattle.clnp_systems.specs.declared.system.System.{System};
 ghost use Rattle.clnp_systems.specs.declared.system.System.TheVariants as variant;
-ghost use Rattle.clnp_world.specs.Lines.{both, tally};
+ghost use Rattle.clnp_world.specs.Lines.{Gains, both, tally};
 ghost use Rattle.clnp_world.specs.Stands.{IsDeclared, IsLeftBy, Stands, TellsFull};
 ghost use Rattle.clnp_world.specs.declared.world.WorldRefusal.TheVariants.{NoMemory as WantsMemory};
 ghost use Rattle.clnp_systems.specs.EndSystem.Stands as end_system;
 ghost use Rattle.clnp_systems.specs.Router.Stands as router_stands;
 
-use crate::lines::Counts;
+use crate::lines::{Counts, LineSink};
 use crate::network::Network;
+use crate::writing::{Front, Writing};
 use clnp_machine::clnp_base::NoMemory;
 use clnp_machine::system_plan::{Telling, push_end};
 use clnp_network::scenarios::{Move, Scenario};
 use clnp_systems::end_system::EndSystem;
 use clnp_systems::router::Router;
 use std::alloc::Global;
-use std::marker::Model;
+use std::marker::{Brand, Model, PhantomData};
+use std::mem;
 
 /// The weight of the copies, in octets, from which on no move is made.
 const MOST_WEIGHT: u64 = 268_435_456;
@@ -42,8 +44,6 @@ pub enum WorldRefusal {
 pub struct World {
     network: Network,
     spent: bool,
-    /// Room for the lines of a move.
-    room: Vec<u8>,
 }
 
 impl Model for World {
@@ -76,7 +76,6 @@ impl World {
         Ok(World {
             network,
             spent: false,
-            room: Vec::new(alloc),
         })
     }
 
@@ -106,19 +105,42 @@ impl World {
         ensures clock { OnErr result (self.new.network.clock ≡ self.old.network.clock) }
         ensures refused { self.old.spent ≡ true → result ≡ Err WantsMemory }
     {
-        self.may_move()?;
-        let clock = self.network.clock;
-        match self
-            .network
-            .write_move(alloc, scenario, mv, telling, &mut self.room, out)
-        {
-            Ok(()) => Ok(()),
-            Err(NoMemory) => {
-                self.spent = true;
-                self.network.clock = clock;
-                Err(WorldRefusal::NoMemory)
-            }
+        self.write::<Brand>(alloc, scenario, mv, telling, out)
+    }
+
+    /// Makes one move, and writes its lines behind a text.
+    fn write<K: Front>(
+        &mut self,
+        alloc: Global,
+        scenario: &Scenario,
+        mv: &Move,
+        telling: Telling,
+        out: &mut Vec<u8>,
+    ) -> Result<(), WorldRefusal>
+        requires clock { self.old.network.clock + 1 < 2 ^ 62 }
+        requires front { out.old.items ≡ K.front }
+        ensures stands { OnOk result ((model : network.LabelledNetwork) → Stands self.old model
+            → Stands self.new (network.after scenario.now model mv.now).world) }
+        ensures lines { OnOk result ((model : network.LabelledNetwork) → Stands self.old model
+            → out.new.items ≡ out.old.items ++ told_lines telling (network.after scenario.now model mv.now).lines) }
+        ensures full { (model : network.LabelledNetwork) → Stands self.old model → TellsFull model result }
+        ensures same { OnErr result (out.new.items ≡ out.old.items) }
+        ensures left { IfErr result (λ e. IsLeftBy e self.old self.new) }
+        ensures clock { OnErr result (self.new.network.clock ≡ self.old.network.clock) }
+        ensures refused { self.old.spent ≡ true → result ≡ Err WantsMemory }
+    {
+        let len = out.len();
+        let mut lines = Writing::<K> {
+            telling,
+            text: mem::replace(out, Vec::new(alloc)),
+            behind: PhantomData,
+        };
+        let made = self.make_move(alloc, scenario, mv, &mut lines);
+        *out = lines.text;
+        if made.is_err() {
+            out.truncate(len);
         }
+        made
     }
 
     /// Makes one move, and counts its lines: what [`World::step`] would write is written nowhere.
@@ -145,13 +167,37 @@ impl World {
         ensures clock { OnErr result (self.new.network.clock ≡ self.old.network.clock) }
         ensures refused { self.old.spent ≡ true → result ≡ Err WantsMemory }
     {
+        let mut lines = *counts;
+        self.make_move(alloc, scenario, mv, &mut lines)?;
+        *counts = lines;
+        Ok(())
+    }
+
+    /// Makes one move, and its lines. Where memory is refused, some of them may have been taken.
+    fn make_move<L: LineSink>(
+        &mut self,
+        alloc: Global,
+        scenario: &Scenario,
+        mv: &Move,
+        lines: &mut L,
+    ) -> Result<(), WorldRefusal>
+        requires { self.old.network.clock + 1 < 2 ^ 62 }
+        ensures stands { OnOk result ((model : network.LabelledNetwork) → Stands self.old model
+            → Stands self.new (network.after scenario.now model mv.now).world) }
+        ensures lines { OnOk result ((model : network.LabelledNetwork) → Stands self.old model
+            → Gains (L.taken lines.old) (L.taken lines.new) (network.after scenario.now model mv.now).lines) }
+        ensures full { (model : network.LabelledNetwork) → Stands self.old model → TellsFull model result }
+        ensures left { IfErr result (λ e. IsLeftBy e self.old self.new) }
+        ensures clock { OnErr result (self.new.network.clock ≡ self.old.network.clock) }
+        ensures refused { self.old.spent ≡ true → result ≡ Err WantsMemory }
+    {
         self.may_move()?;
-        let before = self.network.clock;
-        match self.network.count_move(alloc, scenario, mv, counts) {
+        let clock = self.network.clock;
+        match self.network.make_move(alloc, scenario, mv, lines) {
             Ok(()) => Ok(()),
             Err(NoMemory) => {
                 self.spent = true;
-                self.network.clock = before;
+                self.network.clock = clock;
                 Err(WorldRefusal::NoMemory)
             }
         }

@@ -8,7 +8,7 @@ ghost use Rattle.clnp_world.specs.Changing.{MovesPort, RemovesRoute, SetsRoute, 
 ghost use Rattle.clnp_world.specs.Parts.{Changes, Follows, Holds, IsRunning};
 
 use super::Network;
-use crate::lines::Lines;
+use crate::lines::{Line, LineSink};
 use clnp_machine::clnp_base::{NoMemory, Octets};
 use clnp_machine::forwarding::Route;
 use clnp_machine::nsap::{Prefix, Snpa};
@@ -20,7 +20,7 @@ use std::alloc::Global;
 impl Network {
     /// Puts a port of the system at a place on the subnetwork that was declared at a place, at an address there. It takes
     /// frames as long as those of that subnetwork are now.
-    pub(super) fn move_port(
+    pub(super) fn move_port<L: LineSink>(
         &mut self,
         alloc: Global,
         subnets: &[Subnet],
@@ -28,11 +28,11 @@ impl Network {
         number: u8,
         subnet: u8,
         snpa: Snpa,
-        lines: &mut Lines,
+        lines: &mut L,
     ) -> Result<(), NoMemory>
         requires { IsRunning self.old }
         ensures { OnOk result ((model : network.LabelledNetwork) → Holds self.old model
-            → Follows self.new lines.old lines.new (network.moves_port subnets.now model place number subnet snpa)) }
+            → Follows self.new (L.taken lines.old) (L.taken lines.new) (network.moves_port subnets.now model place number subnet snpa)) }
     {
         let at = usize::from(subnet);
         if at >= subnets.len() {
@@ -58,15 +58,15 @@ impl Network {
     }
 
     /// Sets the route of a prefix at the router at a place, where it has the port out of which the route leads.
-    pub(super) fn set_route(
+    pub(super) fn set_route<L: LineSink>(
         &mut self,
         alloc: Global,
         place: usize,
         route: Route,
-        lines: &mut Lines,
+        lines: &mut L,
     ) -> Result<(), NoMemory>
         ensures { OnOk result ((model : network.LabelledNetwork) → Holds self.old model
-            → Follows self.new lines.old lines.new (network.sets_route model place route)) }
+            → Follows self.new (L.taken lines.old) (L.taken lines.new) (network.sets_route model place route)) }
     {
         if place >= self.systems.len() {
             return Ok(());
@@ -81,15 +81,15 @@ impl Network {
     }
 
     /// Removes the route of a prefix at the router at a place; the line says whether there was one.
-    pub(super) fn remove_route(
+    pub(super) fn remove_route<L: LineSink>(
         &mut self,
         alloc: Global,
         place: usize,
         prefix: &Prefix,
-        lines: &mut Lines,
+        lines: &mut L,
     ) -> Result<(), NoMemory>
         ensures { OnOk result ((model : network.LabelledNetwork) → Holds self.old model
-            → Follows self.new lines.old lines.new (network.removes_route model place prefix.now)) }
+            → Follows self.new (L.taken lines.old) (L.taken lines.new) (network.removes_route model place prefix.now)) }
     {
         if place >= self.systems.len() {
             return Ok(());
@@ -106,17 +106,17 @@ impl Network {
 
     /// The subnetwork that was declared at a place takes frames of so many octets from now on, and so does each port on
     /// it.
-    pub(super) fn resize(
+    pub(super) fn resize<L: LineSink>(
         &mut self,
         alloc: Global,
         subnets: &[Subnet],
         subnet: u8,
         mtu: u16,
-        lines: &mut Lines,
+        lines: &mut L,
     ) -> Result<(), NoMemory>
         requires { IsWithin 512 65535 mtu }
         ensures { OnOk result ((model : network.LabelledNetwork) → Holds self.old model
-            → Follows self.new lines.old lines.new (network.resizes subnets.now model subnet mtu)) }
+            → Follows self.new (L.taken lines.old) (L.taken lines.new) (network.resizes subnets.now model subnet mtu)) }
     {
         let at = usize::from(subnet);
         if at >= subnets.len() {
@@ -124,7 +124,12 @@ impl Network {
         }
         self.keep_mtu(at, mtu);
         self.resize_each(subnet, mtu);
-        lines.resizing(alloc, self.clock, subnets[at].name(), mtu)
+        let line = Line::Resized {
+            now: self.clock,
+            subnet: subnets[at].name(),
+            mtu,
+        };
+        lines.take(alloc, &line)
     }
 
     /// Keeps how long the frames of a subnetwork may be, for the ports that come to it.

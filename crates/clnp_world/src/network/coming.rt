@@ -10,7 +10,7 @@ ghost use Rattle.clnp_world.specs.Stands.{IsMadeWithUnit};
 
 use super::Network;
 use crate::copy::Origin;
-use crate::lines::Lines;
+use crate::lines::LineSink;
 use clnp_machine::clnp_base::NoMemory;
 use clnp_machine::clnp_views::Frame;
 use clnp_machine::system_plan::{Ask, Output};
@@ -23,19 +23,19 @@ const FEW_OUTPUTS: usize = 2;
 impl Network {
     /// Something comes to the system at a place, where there is one, and what the system gives out goes out. A frame that
     /// comes has the origin `came`; where none does, any origin serves.
-    pub(super) fn comes(
+    pub(super) fn comes<L: LineSink>(
         &mut self,
         alloc: Global,
         place: usize,
         came: Origin,
         input: &Input<'_>,
-        lines: &mut Lines,
+        lines: &mut L,
     ) -> Result<(), NoMemory>
         requires { (system : System) → slice_get self.old.systems.items place ≡ Some system
             → MayCome (entity_of system).moment input.now }
         ensures follows { OnOk result ((model : network.LabelledNetwork) (content : Content) → Holds self.old model → Carries input.now content
             → IsMadeWithUnit came content → IsTimely model place (input_with content input.now)
-            → Follows self.new lines.old lines.new (network.comes model place (input_with content input.now))) }
+            → Follows self.new (L.taken lines.old) (L.taken lines.new) (network.comes model place (input_with content input.now))) }
         ensures systems { vec_len self.new.systems ≡ vec_len self.old.systems }
         ensures clock { self.new.clock ≡ self.old.clock }
         ensures copies { vec_len self.old.copies ≤ vec_len self.new.copies }

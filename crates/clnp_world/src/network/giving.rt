@@ -11,7 +11,7 @@ ghost use Rattle.clnp_machine.specs.Unit.{Maker};
 use super::Network;
 use super::coming::names_of_inputs;
 use crate::copy::{first_port, is_to_group};
-use crate::lines::Lines;
+use crate::lines::{Line, LineSink};
 use clnp_machine::clnp_base::NoMemory;
 use clnp_machine::system_plan::Limits;
 use clnp_systems::Input;
@@ -20,17 +20,17 @@ use std::alloc::Global;
 impl Network {
     /// Gives the copy with a number to the system at a place, where it is for it; else a line says that
     /// there is none for it.
-    pub(super) fn deliver(
+    pub(super) fn deliver<L: LineSink>(
         &mut self,
         alloc: Global,
         limits: Limits,
         number: u32,
         place: usize,
-        lines: &mut Lines,
+        lines: &mut L,
     ) -> Result<(), NoMemory>
         requires { IsRunning self.old }
         ensures { OnOk result ((model : network.LabelledNetwork) → Holds self.old model
-            → Follows self.new lines.old lines.new (network.deliver limits model number place)) }
+            → Follows self.new (L.taken lines.old) (L.taken lines.new) (network.deliver limits model number place)) }
     {
         if place >= self.systems.len() {
             return Ok(());
@@ -46,15 +46,15 @@ impl Network {
     }
 
     /// Gives the copy at the cursor to each of its addressees.
-    pub(super) fn settle_one(
+    pub(super) fn settle_one<L: LineSink>(
         &mut self,
         alloc: Global,
         limits: Limits,
-        lines: &mut Lines,
+        lines: &mut L,
     ) -> Result<(), NoMemory>
         requires { IsRunning self.old }
         ensures { OnOk result ((model : network.LabelledNetwork) → Holds self.old model
-            → Follows self.new lines.old lines.new (network.settle_one limits model)) }
+            → Follows self.new (L.taken lines.old) (L.taken lines.new) (network.settle_one limits model)) }
     {
         let at = self.cursor;
         if at >= self.copies.len() {
@@ -65,18 +65,18 @@ impl Network {
     }
 
     /// Gives a copy to each of its addressees, in the order of the declarations; where it has none, a line says so.
-    fn give_each(
+    fn give_each<L: LineSink>(
         &mut self,
         alloc: Global,
         limits: Limits,
         at: usize,
-        lines: &mut Lines,
+        lines: &mut L,
     ) -> Result<(), NoMemory>
         requires at_in { at < vec_len self.old.copies }
         requires running { IsRunning self.old }
         ensures { OnOk result ((model : network.LabelledNetwork) (copy : network.Copy) → Holds self.old model
             → slice_get model.copies at ≡ Some copy
-            → Follows self.new lines.old lines.new
+            → Follows self.new (L.taken lines.old) (L.taken lines.new)
             (network.settle_for limits (record { number = at + 1; copy = copy }) model (network.addressees_from 0 copy model.systems))) }
     {
         let number = at as u64 + 1;
@@ -90,7 +90,11 @@ impl Network {
         if given {
             return Ok(());
         }
-        lines.nobody(alloc, self.clock, number)
+        let line = Line::ForNobody {
+            now: self.clock,
+            copy: number,
+        };
+        lines.take(alloc, &line)
     }
 
     /// The least of the ports of the system at a place by which a copy comes in, if it is for that system as it now is.
@@ -107,7 +111,7 @@ impl Network {
 
     /// Gives a copy to the system at a place by a port, and a line tells by which; where the copy is late, a line tells that
     /// instead.
-    fn give(
+    fn give<L: LineSink>(
         &mut self,
         alloc: Global,
         limits: Limits,
@@ -115,7 +119,7 @@ impl Network {
         at: usize,
         place: usize,
         port: u8,
-        lines: &mut Lines,
+        lines: &mut L,
     ) -> Result<(), NoMemory>
         requires at_in { at < vec_len self.old.copies }
         requires place_in { place < vec_len self.old.systems }
@@ -123,7 +127,7 @@ impl Network {
         ensures follows { OnOk result ((model : network.LabelledNetwork) (copy : network.Copy) (system : SystemState) → Holds self.old model
             → slice_get model.copies at ≡ Some copy → slice_get model.systems place ≡ Some system
             → port ≡ network.first_port copy system.configuration.role system.attached.ports
-            → Follows self.new lines.old lines.new (network.give limits (record { number = number; copy = copy }) model place)) }
+            → Follows self.new (L.taken lines.old) (L.taken lines.new) (network.give limits (record { number = number; copy = copy }) model place)) }
         ensures systems { vec_len self.new.systems ≡ vec_len self.old.systems }
         ensures copies { vec_len self.old.copies ≤ vec_len self.new.copies }
     {
@@ -172,54 +176,67 @@ impl Network {
     }
 
     /// The line of a copy that comes to the system at a place on a port.
-    fn write_receipt(
+    fn write_receipt<L: LineSink>(
         &self,
         alloc: Global,
         number: u64,
         port: u8,
         place: usize,
-        lines: &mut Lines,
+        lines: &mut L,
     ) -> Result<(), NoMemory>
         requires { place < vec_len self.now.systems }
         ensures { OnOk result ((model : network.LabelledNetwork) (system : SystemState) → Shows self.now model
             → slice_get model.systems place ≡ Some system
-            → Gains lines.old lines.new (Received system.moment system.configuration.name number port ∷ [])) }
+            → Gains (L.taken lines.old) (L.taken lines.new) (Received system.moment system.configuration.name number port ∷ [])) }
     {
-        let name = self.config_at(place).name();
-        lines.receipt(alloc, self.moment_at(place), name, number, port)
+        let line = Line::Received {
+            now: self.moment_at(place),
+            name: self.config_at(place).name(),
+            copy: number,
+            port,
+        };
+        lines.take(alloc, &line)
     }
 
     /// The line of a copy that isn't there for the system at a place.
-    fn write_void(
+    fn write_void<L: LineSink>(
         &self,
         alloc: Global,
         number: u32,
         place: usize,
-        lines: &mut Lines,
+        lines: &mut L,
     ) -> Result<(), NoMemory>
         requires { place < vec_len self.now.systems }
         ensures { OnOk result ((model : network.LabelledNetwork) (system : SystemState) → Shows self.now model
             → slice_get model.systems place ≡ Some system
-            → Gains lines.old lines.new (Void system.moment system.configuration.name number ∷ [])) }
+            → Gains (L.taken lines.old) (L.taken lines.new) (Void system.moment system.configuration.name number ∷ [])) }
     {
-        let name = self.config_at(place).name();
-        lines.void(alloc, self.moment_at(place), name, number)
+        let line = Line::Void {
+            now: self.moment_at(place),
+            name: self.config_at(place).name(),
+            copy: number,
+        };
+        lines.take(alloc, &line)
     }
 
     /// The line of a copy that is too old for the system at a place.
-    fn write_late(
+    fn write_late<L: LineSink>(
         &self,
         alloc: Global,
         number: u64,
         place: usize,
-        lines: &mut Lines,
+        lines: &mut L,
     ) -> Result<(), NoMemory>
         requires { place < vec_len self.now.systems }
         ensures { OnOk result ((model : network.LabelledNetwork) (system : SystemState) → Shows self.now model
             → slice_get model.systems place ≡ Some system
-            → Gains lines.old lines.new (Late system.moment system.configuration.name number ∷ [])) }
+            → Gains (L.taken lines.old) (L.taken lines.new) (Late system.moment system.configuration.name number ∷ [])) }
     {
-        let name = self.config_at(place).name();
-        lines.late(alloc, self.moment_at(place), name, number)
+        let line = Line::Late {
+            now: self.moment_at(place),
+            name: self.config_at(place).name(),
+            copy: number,
+        };
+        lines.take(alloc, &line)
     }
 }

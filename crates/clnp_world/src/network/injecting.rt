@@ -6,7 +6,7 @@ ghost use Rattle.clnp_world.specs.Parts.{Follows, Holds};
 
 use super::Network;
 use crate::copy::{FrameCopy, Origin};
-use crate::lines::Lines;
+use crate::lines::{Line, LineSink};
 use clnp_machine::clnp_base::{NoMemory, Octets};
 use clnp_machine::clnp_views::Frame;
 use clnp_machine::nsap::{Snpa, Target};
@@ -15,7 +15,7 @@ use std::alloc::Global;
 
 impl Network {
     /// Puts a frame from outside on the subnetwork that was declared at a place, from an address there to a target.
-    pub(super) fn inject(
+    pub(super) fn inject<L: LineSink>(
         &mut self,
         alloc: Global,
         subnets: &[Subnet],
@@ -23,12 +23,12 @@ impl Network {
         from: Snpa,
         to: Target,
         octets: &Octets,
-        lines: &mut Lines,
+        lines: &mut L,
     ) -> Result<(), NoMemory>
         requires bytes { IsBytes octets.now }
         requires few { length octets.now ≤ 70000 }
         ensures { OnOk result ((model : network.LabelledNetwork) → Holds self.old model
-            → Follows self.new lines.old lines.new (network.injects subnets.now model subnet from to octets.now)) }
+            → Follows self.new (L.taken lines.old) (L.taken lines.new) (network.injects subnets.now model subnet from to octets.now)) }
     {
         let place = usize::from(subnet);
         if place >= subnets.len() {
@@ -36,9 +36,14 @@ impl Network {
         }
         // Its clause: the octets are the frame of some content of the model.
         clnp_machine::laws::octets_have_a_content();
-        let name = subnets[place].name();
-        let number = self.copies.len() as u64 + 1;
-        lines.injection(alloc, self.clock, number, name, &from, &to)?;
+        let line = Line::Injected {
+            now: self.clock,
+            copy: self.copies.len() as u64 + 1,
+            subnet: subnets[place].name(),
+            sender: &from,
+            target: &to,
+        };
+        lines.take(alloc, &line)?;
         let frame = Frame::copy(alloc, octets.as_bytes())?;
         self.push_copy(FrameCopy {
             subnet,

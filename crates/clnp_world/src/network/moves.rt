@@ -3,90 +3,32 @@ ghost use Rattle.std.specs.Prelude.{◌≡◌, ◌+◌, ◌<◌, ◌≤◌, ◌^
 ghost use Rattle.std.specs.List.{AllByRecursion, range_with_len};
 ghost use Rattle.clnp_machine.specs.System.{IsRestarted, IsCongested};
 ghost use Rattle.clnp_network.specs.LabelledNetwork as network;
-ghost use Rattle.clnp_world.specs.Lines.{both, tally};
-ghost use Rattle.clnp_world.specs.Parts.{Follows, FollowsIn, Holds, IsRunning, MayGoOn};
+ghost use Rattle.clnp_world.specs.Parts.{Follows, Holds, IsRunning, MayGoOn};
 ghost use Rattle.clnp_network.specs.Scenario.Scenario.{AsksFairly, InjectsInForm, IsSaid};
 
 use super::Network;
 use super::coming::names_of_inputs;
 use crate::copy::NO_FRAME;
-use crate::lines::{Counts, Form, Lines};
+use crate::lines::{Line, LineSink};
 use clnp_machine::clnp_base::NoMemory;
-use clnp_machine::system_plan::{Limits, Telling};
+use clnp_machine::system_plan::Limits;
 use clnp_network::scenarios::{Event, Move, Scenario, Subnet};
 use clnp_systems::Input;
 use std::alloc::Global;
-use std::mem;
 
 impl Network {
-    /// Makes one move, and appends its lines to a journal or a trace, all of them or none. Until the move is made they
-    /// stand in `room`, which serves every move.
-    pub(crate) fn write_move(
+    /// Makes one move, and its lines. Where memory is refused, some of them may have been taken.
+    pub(crate) fn make_move<L: LineSink>(
         &mut self,
         alloc: Global,
         scenario: &Scenario,
         mv: &Move,
-        telling: Telling,
-        room: &mut Vec<u8>,
-        out: &mut Vec<u8>,
-    ) -> Result<(), NoMemory>
-        requires clock { self.old.clock + 1 < 2 ^ 62 }
-        requires running { IsRunning self.old }
-        ensures follows { OnOk result ((model : network.LabelledNetwork) → Holds self.old model
-            → FollowsIn telling self.new out.old.items out.new.items (network.after scenario.now model mv.now)) }
-        ensures same { OnErr result (out.new.items ≡ out.old.items) }
-    {
-        let mut text = mem::replace(room, Vec::new(alloc));
-        text.clear();
-        let mut lines = Lines {
-            form: Form::Written(telling),
-            text,
-            counts: Counts::none(),
-        };
-        self.make_move(alloc, scenario, mv, &mut lines)?;
-        out.extend_from_slice(lines.text.as_slice())?;
-        *room = lines.text;
-        Ok(())
-    }
-
-    /// Makes one move, and counts its lines, all of them or none.
-    pub(crate) fn count_move(
-        &mut self,
-        alloc: Global,
-        scenario: &Scenario,
-        mv: &Move,
-        counts: &mut Counts,
-    ) -> Result<(), NoMemory>
-        requires clock { self.old.clock + 1 < 2 ^ 62 }
-        requires running { IsRunning self.old }
-        ensures follows { OnOk result ((model : network.LabelledNetwork) → Holds self.old model
-            → Holds self.new (network.after scenario.now model mv.now).world) }
-        ensures counted { OnOk result ((model : network.LabelledNetwork) → Holds self.old model
-            → counts.new ≡ both counts.old (tally (network.after scenario.now model mv.now).lines)) }
-        ensures same { OnErr result (counts.new ≡ counts.old) }
-    {
-        let mut lines = Lines {
-            form: Form::Counted,
-            text: Vec::new(alloc),
-            counts: *counts,
-        };
-        self.make_move(alloc, scenario, mv, &mut lines)?;
-        *counts = lines.counts;
-        Ok(())
-    }
-
-    /// Makes one move, and its lines.
-    fn make_move(
-        &mut self,
-        alloc: Global,
-        scenario: &Scenario,
-        mv: &Move,
-        lines: &mut Lines,
+        lines: &mut L,
     ) -> Result<(), NoMemory>
         requires clock { self.old.clock + 1 < 2 ^ 62 }
         requires running { IsRunning self.old }
         ensures { OnOk result ((model : network.LabelledNetwork) → Holds self.old model
-            → Follows self.new lines.old lines.new (network.after scenario.now model mv.now)) }
+            → Follows self.new (L.taken lines.old) (L.taken lines.new) (network.after scenario.now model mv.now)) }
     {
         // Its clause: each event asks of a system what may be asked of it, injects in its form, and says what may be said.
         scenario.is_fit();
@@ -104,21 +46,21 @@ impl Network {
     }
 
     /// What the event at a place does, where there is one.
-    fn event_at(
+    fn event_at<L: LineSink>(
         &mut self,
         alloc: Global,
         subnets: &[Subnet],
         limits: Limits,
         events: &[Event],
         place: usize,
-        lines: &mut Lines,
+        lines: &mut L,
     ) -> Result<(), NoMemory>
         requires running { IsRunning self.old }
         requires fair { AllByRecursion AsksFairly events.now }
         requires injected { AllByRecursion (InjectsInForm (length subnets.now)) events.now }
         requires said { AllByRecursion IsSaid events.now }
         ensures { OnOk result ((model : network.LabelledNetwork) → Holds self.old model
-            → Follows self.new lines.old lines.new
+            → Follows self.new (L.taken lines.old) (L.taken lines.new)
             (network.event_happens subnets.now limits model (slice_get events.now place))) }
     {
         if place >= events.len() {
@@ -128,20 +70,20 @@ impl Network {
     }
 
     /// What an event of one move does.
-    fn event_happens(
+    fn event_happens<L: LineSink>(
         &mut self,
         alloc: Global,
         subnets: &[Subnet],
         limits: Limits,
         event: &Event,
-        lines: &mut Lines,
+        lines: &mut L,
     ) -> Result<(), NoMemory>
         requires running { IsRunning self.old }
         requires fair { AsksFairly event.now }
         requires injected { InjectsInForm (length subnets.now) event.now }
         requires said { IsSaid event.now }
         ensures { OnOk result ((model : network.LabelledNetwork) → Holds self.old model
-            → Follows self.new lines.old lines.new (network.event_happens subnets.now limits model (Some event.now))) }
+            → Follows self.new (L.taken lines.old) (L.taken lines.new) (network.event_happens subnets.now limits model (Some event.now))) }
     {
         match event {
             Event::Send {
@@ -197,58 +139,67 @@ impl Network {
     }
 
     /// Passes over the copy at the cursor: it is given to nobody.
-    fn lose_one(&mut self, alloc: Global, lines: &mut Lines) -> Result<(), NoMemory>
+    fn lose_one<L: LineSink>(&mut self, alloc: Global, lines: &mut L) -> Result<(), NoMemory>
         ensures { OnOk result ((model : network.LabelledNetwork) → Holds self.old model
-            → Follows self.new lines.old lines.new (network.lose_one model)) }
+            → Follows self.new (L.taken lines.old) (L.taken lines.new) (network.lose_one model)) }
     {
         if self.cursor >= self.copies.len() {
             return Ok(());
         }
         self.cursor += 1;
-        lines.loss(alloc, self.clock, self.cursor as u64)
+        let line = Line::Lost {
+            now: self.clock,
+            copy: self.cursor as u64,
+        };
+        lines.take(alloc, &line)
     }
 
     /// Restarts the system at a place.
-    fn restart(&mut self, alloc: Global, place: usize, lines: &mut Lines) -> Result<(), NoMemory>
+    fn restart<L: LineSink>(
+        &mut self,
+        alloc: Global,
+        place: usize,
+        lines: &mut L,
+    ) -> Result<(), NoMemory>
         ensures { OnOk result ((model : network.LabelledNetwork) → Holds self.old model
-            → Follows self.new lines.old lines.new (network.comes model place IsRestarted)) }
+            → Follows self.new (L.taken lines.old) (L.taken lines.new) (network.comes model place IsRestarted)) }
     {
         names_of_inputs(None, None);
         self.comes(alloc, place, NO_FRAME, &Input::Restart, lines)
     }
 
     /// The system at a place is congested from now on, or no more.
-    fn congest(
+    fn congest<L: LineSink>(
         &mut self,
         alloc: Global,
         place: usize,
         on: bool,
-        lines: &mut Lines,
+        lines: &mut L,
     ) -> Result<(), NoMemory>
         ensures { OnOk result ((model : network.LabelledNetwork) → Holds self.old model
-            → Follows self.new lines.old lines.new (network.comes model place (IsCongested on))) }
+            → Follows self.new (L.taken lines.old) (L.taken lines.new) (network.comes model place (IsCongested on))) }
     {
         names_of_inputs(None, None);
         self.comes(alloc, place, NO_FRAME, &Input::Congest(on), lines)
     }
 
     /// One tick passes.
-    fn tick_one(&mut self, alloc: Global, lines: &mut Lines) -> Result<(), NoMemory>
+    fn tick_one<L: LineSink>(&mut self, alloc: Global, lines: &mut L) -> Result<(), NoMemory>
         requires clock { self.old.clock + 1 < 2 ^ 62 }
         requires running { IsRunning self.old }
         ensures { OnOk result ((model : network.LabelledNetwork) → Holds self.old model
-            → Follows self.new lines.old lines.new (network.tick_one model)) }
+            → Follows self.new (L.taken lines.old) (L.taken lines.new) (network.tick_one model)) }
     {
         self.clock += 1;
         self.tick_each(alloc, lines)
     }
 
     /// The clock of each system goes on, in the order of the declarations.
-    fn tick_each(&mut self, alloc: Global, lines: &mut Lines) -> Result<(), NoMemory>
+    fn tick_each<L: LineSink>(&mut self, alloc: Global, lines: &mut L) -> Result<(), NoMemory>
         requires clock { self.old.clock < 2 ^ 62 }
         requires running { (model : network.LabelledNetwork) × Holds self.old model × ((place : ℕ) → MayGoOn model place) }
         ensures { OnOk result ((model : network.LabelledNetwork) → Holds self.old model → ((place : ℕ) → MayGoOn model place)
-            → Follows self.new lines.old lines.new (network.tick_each model (range_with_len 0 (length model.systems)))) }
+            → Follows self.new (L.taken lines.old) (L.taken lines.new) (network.tick_each model (range_with_len 0 (length model.systems)))) }
     {
         for place in 0..self.systems.len() {
             self.go_on(alloc, place, lines)?;
@@ -257,16 +208,16 @@ impl Network {
     }
 
     /// The clock of the system at a place goes on, where there is one, and the network's where it is passed.
-    fn tick_system(
+    fn tick_system<L: LineSink>(
         &mut self,
         alloc: Global,
         place: usize,
-        lines: &mut Lines,
+        lines: &mut L,
     ) -> Result<(), NoMemory>
         requires clock { self.old.clock + 1 < 2 ^ 62 }
         requires running { IsRunning self.old }
         ensures { OnOk result ((model : network.LabelledNetwork) → Holds self.old model
-            → Follows self.new lines.old lines.new (network.tick_system model place)) }
+            → Follows self.new (L.taken lines.old) (L.taken lines.new) (network.tick_system model place)) }
     {
         if place >= self.systems.len() {
             return Ok(());
@@ -277,12 +228,17 @@ impl Network {
     }
 
     /// The clock of the system at a place goes on, and its moment comes to it.
-    fn go_on(&mut self, alloc: Global, place: usize, lines: &mut Lines) -> Result<(), NoMemory>
+    fn go_on<L: LineSink>(
+        &mut self,
+        alloc: Global,
+        place: usize,
+        lines: &mut L,
+    ) -> Result<(), NoMemory>
         requires place_in { place < vec_len self.old.systems }
         requires clock { self.old.clock < 2 ^ 62 }
         requires running { (model : network.LabelledNetwork) × Holds self.old model × MayGoOn model place }
         ensures follows { OnOk result ((model : network.LabelledNetwork) → Holds self.old model → MayGoOn model place
-            → Follows self.new lines.old lines.new (network.goes_on model place (slice_get model.systems place))) }
+            → Follows self.new (L.taken lines.old) (L.taken lines.new) (network.goes_on model place (slice_get model.systems place))) }
         ensures systems { vec_len self.new.systems ≡ vec_len self.old.systems }
         ensures clock { self.new.clock ≡ self.old.clock }
     {

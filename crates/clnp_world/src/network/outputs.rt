@@ -15,7 +15,7 @@ ghost use Rattle.clnp_world.specs.Stands.{IsMadeWithUnit};
 
 use super::Network;
 use crate::copy::{FrameCopy, Origin};
-use crate::lines::Lines;
+use crate::lines::{Line, LineSink};
 use clnp_machine::clnp_base::NoMemory;
 use clnp_machine::clnp_views::Frame;
 use clnp_machine::nsap::Target;
@@ -29,19 +29,19 @@ const COPY_WEIGHT: u64 = 64;
 impl Network {
     /// Puts the outputs of the system at a place on the network, in their order. The frame that the system was given has the
     /// origin `came`; where none was, nothing goes on, and any origin serves.
-    pub(super) fn put_all_out(
+    pub(super) fn put_all_out<L: LineSink>(
         &mut self,
         alloc: Global,
         place: usize,
         came: Origin,
         outputs: Vec<Output>,
-        lines: &mut Lines,
+        lines: &mut L,
     ) -> Result<(), NoMemory>
         requires { place < vec_len self.old.systems }
         ensures puts { OnOk result ((model : network.LabelledNetwork) (system : SystemState) (content : Content) (others : List machine.Output)
             → Shows self.old model → slice_get model.systems place ≡ Some system → IsMadeWithUnit came content
             → AllByRecursion (IsOwnWhereFirst system) others → GiveAll system.moment (Some content) outputs.items others
-            → Puts self.new lines.old lines.new (network.put_all_out system model others)) }
+            → Puts self.new (L.taken lines.old) (L.taken lines.new) (network.put_all_out system model others)) }
         ensures systems { self.new.systems ≡ self.old.systems }
         ensures clock { self.new.clock ≡ self.old.clock }
         ensures copies { vec_len self.old.copies ≤ vec_len self.new.copies }
@@ -54,19 +54,19 @@ impl Network {
 
     /// Puts an output of the system at a place on the network: its note is written, or its frame put on
     /// the port's subnetwork. The frame that the system was given has the origin `came`.
-    fn put_out(
+    fn put_out<L: LineSink>(
         &mut self,
         alloc: Global,
         place: usize,
         came: Origin,
         output: &Output,
-        lines: &mut Lines,
+        lines: &mut L,
     ) -> Result<(), NoMemory>
         requires { place < vec_len self.old.systems }
         ensures puts { OnOk result ((model : network.LabelledNetwork) (system : SystemState) (content : Content) (other : machine.Output)
             → Shows self.old model → slice_get model.systems place ≡ Some system → IsMadeWithUnit came content
             → IsOwnWhereFirst system other → Gives system.moment (Some content) output.now other
-            → Puts self.new lines.old lines.new (network.put_out system model other)) }
+            → Puts self.new (L.taken lines.old) (L.taken lines.new) (network.put_out system model other)) }
         ensures systems { self.new.systems ≡ self.old.systems }
         ensures clock { self.new.clock ≡ self.old.clock }
         ensures copies { vec_len self.old.copies ≤ vec_len self.new.copies }
@@ -83,46 +83,51 @@ impl Network {
     }
 
     /// The line of a note of the system at a place.
-    pub(super) fn write_note(
+    pub(super) fn write_note<L: LineSink>(
         &self,
         alloc: Global,
         place: usize,
         note: &Note,
-        lines: &mut Lines,
+        lines: &mut L,
     ) -> Result<(), NoMemory>
         requires { place < vec_len self.now.systems }
         ensures { OnOk result ((model : network.LabelledNetwork) (system : SystemState) → Shows self.now model
             → slice_get model.systems place ≡ Some system
-            → Gains lines.old lines.new (Noted system.moment system.configuration.name note.now ∷ [])) }
+            → Gains (L.taken lines.old) (L.taken lines.new) (Noted system.moment system.configuration.name note.now ∷ [])) }
     {
-        lines.note(
-            alloc,
-            self.moment_at(place),
-            self.config_at(place).name(),
+        let line = Line::Noted {
+            now: self.moment_at(place),
+            name: self.config_at(place).name(),
             note,
-        )
+        };
+        lines.take(alloc, &line)
     }
 
     /// The line of a frame that the system at a place transmits as the next copy.
-    fn write_transmission(
+    fn write_transmission<L: LineSink>(
         &self,
         alloc: Global,
         place: usize,
         port: u8,
         target: Target,
         frame: &Frame,
-        lines: &mut Lines,
+        lines: &mut L,
     ) -> Result<(), NoMemory>
         requires { place < vec_len self.now.systems }
         ensures { OnOk result ((model : network.LabelledNetwork) (system : SystemState) → Shows self.now model
             → slice_get model.systems place ≡ Some system
-            → Gains lines.old lines.new (Transmitted system.moment system.configuration.name
+            → Gains (L.taken lines.old) (L.taken lines.new) (Transmitted system.moment system.configuration.name
             (length model.copies + 1) port target frame.now ∷ [])) }
     {
-        let now = self.moment_at(place);
-        let name = self.config_at(place).name();
-        let number = self.copies.len() as u64 + 1;
-        lines.transmission(alloc, now, name, number, port, target, frame.bytes())
+        let line = Line::Transmitted {
+            now: self.moment_at(place),
+            name: self.config_at(place).name(),
+            copy: self.copies.len() as u64 + 1,
+            port,
+            target,
+            frame: frame.bytes(),
+        };
+        lines.take(alloc, &line)
     }
 
     /// The origin of a frame that the system at a place sends, where the frame that it was given has the origin `came`.

@@ -10,7 +10,7 @@ ghost use Rattle.clnp_network.specs.Scenario.Scenario.{octets_of};
 use super::Network;
 use super::coming::names_of_inputs;
 use crate::copy::NO_FRAME;
-use crate::lines::Lines;
+use crate::lines::LineSink;
 use clnp_machine::clnp_base::NoMemory;
 use clnp_machine::nsap::Address;
 use clnp_machine::system_plan::{Ask, Role};
@@ -20,7 +20,7 @@ use std::alloc::Global;
 
 impl Network {
     /// Asks the system at a place to send a unit; nobody asks a router.
-    pub(super) fn send(
+    pub(super) fn send<L: LineSink>(
         &mut self,
         alloc: Global,
         place: usize,
@@ -28,11 +28,11 @@ impl Network {
         to: Address,
         body: &Body,
         ask: &Ask,
-        lines: &mut Lines,
+        lines: &mut L,
     ) -> Result<(), NoMemory>
         requires { FitsKind false (parameters ask.now.options) }
         ensures { OnOk result ((model : network.LabelledNetwork) → Holds self.old model
-            → Follows self.new lines.old lines.new
+            → Follows self.new (L.taken lines.old) (L.taken lines.new)
             (network.asks model place (AsksToSend from to (octets_of body.now) ask.now))) }
     {
         let octets = body.octets(alloc)?;
@@ -40,7 +40,7 @@ impl Network {
     }
 
     /// Asks the system at a place to send a unit of these octets, where it is a host.
-    fn send_octets(
+    fn send_octets<L: LineSink>(
         &mut self,
         alloc: Global,
         place: usize,
@@ -48,11 +48,11 @@ impl Network {
         to: Address,
         body: &[u8],
         ask: &Ask,
-        lines: &mut Lines,
+        lines: &mut L,
     ) -> Result<(), NoMemory>
         requires { FitsKind false (parameters ask.now.options) }
         ensures { OnOk result ((model : network.LabelledNetwork) → Holds self.old model
-            → Follows self.new lines.old lines.new
+            → Follows self.new (L.taken lines.old) (L.taken lines.new)
             (network.asks model place (AsksToSend from to body.now ask.now))) }
     {
         if place >= self.systems.len() {
@@ -74,17 +74,17 @@ impl Network {
     }
 
     /// Asks the system at a place, a host or a router, for an echo request.
-    pub(super) fn echo(
+    pub(super) fn echo<L: LineSink>(
         &mut self,
         alloc: Global,
         place: usize,
         from: Address,
         to: Address,
         body: &Body,
-        lines: &mut Lines,
+        lines: &mut L,
     ) -> Result<(), NoMemory>
         ensures { OnOk result ((model : network.LabelledNetwork) → Holds self.old model
-            → Follows self.new lines.old lines.new
+            → Follows self.new (L.taken lines.old) (L.taken lines.new)
             (network.comes model place (AsksForEcho from to (octets_of body.now)))) }
     {
         let octets = body.octets(alloc)?;
@@ -92,17 +92,17 @@ impl Network {
     }
 
     /// Asks the system at a place for an echo request with these octets.
-    fn echo_octets(
+    fn echo_octets<L: LineSink>(
         &mut self,
         alloc: Global,
         place: usize,
         from: Address,
         to: Address,
         body: &[u8],
-        lines: &mut Lines,
+        lines: &mut L,
     ) -> Result<(), NoMemory>
         ensures { OnOk result ((model : network.LabelledNetwork) → Holds self.old model
-            → Follows self.new lines.old lines.new
+            → Follows self.new (L.taken lines.old) (L.taken lines.new)
             (network.comes model place (AsksForEcho from to body.now))) }
     {
         names_of_inputs(None, None);

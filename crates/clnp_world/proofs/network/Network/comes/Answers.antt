@@ -8,21 +8,21 @@ use Rattle.clnp_world.proofs.TakeSteps.{comes_there, comes_to_none}
 use Rattle.clnp_world.proofs.network.Network.comes.Goals as goal
 
 pub returns-then-place-len-clause-follows : goal.returns-then-place-len-clause-follows
-returns-then-place-len-clause-follows c = λ model content h carries born timely.
-    comes_to_none c.args.self.now c.args.lines.now c.args.place (omega (arith, c.args.self.now.systems.ok.0)) model
+returns-then-place-len-clause-follows g c = λ model content h carries born timely.
+    comes_to_none c.args.self.now (g.L.LineSink.taken c.args.lines.now) c.args.place (omega (arith, c.args.self.now.systems.ok.0)) model
     (input_with content c.args.input.now) h timely
 
 pub step-requires : goal.step-requires
-step-requires c =
+step-requires g c =
     c.requires c.index_mut.result.now
     (slice_get_read c.args.self.now.systems.items _ c.args.place c.index_mut.result.now refl (omega (arith, c.args.self.now.systems.ok.0)) c.index_mut.ensures.value)
 
 pub returns-clause-follows : goal.returns-clause-follows
-returns-clause-follows c =
+returns-clause-follows g c =
     let old = c.args.self.now in
     let node = c.index_mut.result.now in
     on_ok_weaker c.put_all_out.result (λ puts model content h carries born timely.
-    comes_there c.first_transmissions_are_its_own.ensures old c.put_all_out.new.self c.args.lines.now c.put_all_out.new.lines c.args.place c.args.came
+    comes_there c.first_transmissions_are_its_own.ensures old c.put_all_out.new.self (g.L.LineSink.taken c.args.lines.now) (g.L.LineSink.taken c.put_all_out.new.lines) c.args.place c.args.came
     content c.args.input.now (role_of node) node c.step.new.self c.in_ok-outputs.outputs.items c.step.new.out.items
     (slice_get_read old.systems.items _ c.args.place node refl (omega (arith, old.systems.ok.0)) c.index_mut.ensures.value)
     c.in_ok-outputs.ensures (c.in_ok-step.ensures.step content carries) puts model h born timely)

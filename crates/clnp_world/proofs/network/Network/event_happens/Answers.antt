@@ -10,13 +10,13 @@ use Rattle.clnp_world.specs.Parts.{Follows}
 use Rattle.clnp_world.proofs.network.Network.event_happens.Goals as goal
 
 pub returns-in-Send : goal.returns-in-Send
-returns-in-Send c =
+returns-in-Send g c =
     on_ok_weaker c.send.result (λ sends model h.
-    subst (λ (event : Event). Follows c.send.new.self c.args.lines.now c.send.new.lines
+    subst (λ (event : Event). Follows c.send.new.self (g.L.LineSink.taken c.args.lines.now) (g.L.LineSink.taken c.send.new.lines)
     (network.event_happens c.args.subnets.now c.args.limits model (Some event))) (sym c.in-Send.is)
-    (subst (λ (place : ℕ). Follows c.send.new.self c.args.lines.now c.send.new.lines
+    (subst (λ (place : ℕ). Follows c.send.new.self (g.L.LineSink.taken c.args.lines.now) (g.L.LineSink.taken c.send.new.lines)
     (network.asks model place (AsksToSend c.in-Send.from c.in-Send.to (octets_of c.in-Send.body) c.in-Send.ask))) c.from.ensures
-    (subst (λ (ask : Ask). Follows c.send.new.self c.args.lines.now c.send.new.lines
+    (subst (λ (ask : Ask). Follows c.send.new.self (g.L.LineSink.taken c.args.lines.now) (g.L.LineSink.taken c.send.new.lines)
     (network.asks model c.from.result (AsksToSend c.in-Send.from c.in-Send.to (octets_of c.in-Send.body) ask))) c.ask-ask.ensures
     (sends model h))))
     c.send.ensures

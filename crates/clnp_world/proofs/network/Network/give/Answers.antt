@@ -14,16 +14,16 @@ use Rattle.clnp_world.proofs.TakeSteps.{is_behind}
 use Rattle.clnp_world.proofs.network.Network.give.Goals as goal
 
 pub returns-then-is_late-clause-follows : goal.returns-then-is_late-clause-follows
-returns-then-is_late-clause-follows c =
+returns-then-is_late-clause-follows g c =
     let old = c.args.self.now in
     on_ok_weaker c.write_late.result (λ writes model copy system h at there port_is.
-    gives_late old c.args.lines.now c.write_late.new.lines c.args.limits c.args.number c.args.at c.args.place
+    gives_late old (g.L.LineSink.taken c.args.lines.now) (g.L.LineSink.taken c.write_late.new.lines) c.args.limits c.args.number c.args.at c.args.place
     (omega (arith, old.systems.ok.0)) (subst (λ (b : Bool). TellsLate old c.args.limits c.args.at b) c.if-is_late.true c.is_late.ensures)
     writes model copy h at)
     c.write_late.ensures
 
 pub returns-clause-follows : goal.returns-clause-follows
-returns-clause-follows c =
+returns-clause-follows g c =
     let old = c.args.self.now in
     let seen = c.index-copy.result.now in
     on_ok_weaker c.comes.result (λ follows model copy system h at there port_is.
@@ -34,12 +34,12 @@ returns-clause-follows c =
     let octets = ap (λ (f : FrameCopy). f.frame) (sym same) ∙ sym c.in_ok-frame.ensures in
     let sent : Input = FrameComes c.args.port seen.sender c.is_to_group-group.result copy.content in
     let part = follows model copy.content h (carried, octets) born (is_behind old c.args.place model h) in
-    let line = subst (λ (port : ℕ). Gains c.args.lines.now c.write_receipt.new.lines
+    let line = subst (λ (port : ℕ). Gains (g.L.LineSink.taken c.args.lines.now) (g.L.LineSink.taken c.write_receipt.new.lines)
     (Received system.moment system.configuration.name c.args.number port ∷ [])) port_is (c.in_ok-write_receipt.ensures model system h.shows there) in
-    gives_now old c.comes.new.self c.args.lines.now c.comes.new.lines c.args.limits c.args.number c.args.at c.args.place
+    gives_now old c.comes.new.self (g.L.LineSink.taken c.args.lines.now) (g.L.LineSink.taken c.comes.new.lines) c.args.limits c.args.number c.args.at c.args.place
     (subst (λ (b : Bool). TellsLate old c.args.limits c.args.at b) c.if-is_late.false c.is_late.ensures) model copy system h at there
-    (hands_over c.comes.new.self c.args.lines.now c.write_receipt.new.lines c.comes.new.lines c.args.number c.args.place model copy system line
-    (subst (λ (i : Input). Follows c.comes.new.self c.write_receipt.new.lines c.comes.new.lines (network.takes_effect model c.args.place (step system i))) comes
-    (subst (λ (s : Option SystemState). Follows c.comes.new.self c.write_receipt.new.lines c.comes.new.lines
+    (hands_over c.comes.new.self (g.L.LineSink.taken c.args.lines.now) (g.L.LineSink.taken c.write_receipt.new.lines) (g.L.LineSink.taken c.comes.new.lines) c.args.number c.args.place model copy system line
+    (subst (λ (i : Input). Follows c.comes.new.self (g.L.LineSink.taken c.write_receipt.new.lines) (g.L.LineSink.taken c.comes.new.lines) (network.takes_effect model c.args.place (step system i))) comes
+    (subst (λ (s : Option SystemState). Follows c.comes.new.self (g.L.LineSink.taken c.write_receipt.new.lines) (g.L.LineSink.taken c.comes.new.lines)
     (network.comes_to model c.args.place sent s)) there part))))
     c.comes.ensures.follows

@@ -5,10 +5,10 @@ use Rattle.clnp_world.proofs.GiveSteps.{loses, loses_none}
 use Rattle.clnp_world.proofs.network.Network.lose_one.Goals as goal
 
 pub returns-then-self-len : goal.returns-then-self-len
-returns-then-self-len c = loses_none c.args.self.now c.args.lines.now (omega (arith, c.args.self.now.copies.ok.0))
+returns-then-self-len g c = loses_none c.args.self.now (g.L.LineSink.taken c.args.lines.now) (omega (arith, c.args.self.now.copies.ok.0))
 
 pub returns : goal.returns
-returns c =
-    on_ok_weaker c.loss.result
-    (loses c.args.self.now c.args.lines.now c.loss.new.self (omega (arith, c.args.self.now.copies.ok.0)))
-    c.loss.ensures
+returns g c =
+    on_ok_weaker c.take.result
+    (loses c.args.self.now (g.L.LineSink.taken c.args.lines.now) (g.L.LineSink.taken c.take.new.self) (omega (arith, c.args.self.now.copies.ok.0)))
+    c.take.ensures

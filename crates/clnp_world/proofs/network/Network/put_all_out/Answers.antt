@@ -9,22 +9,22 @@ use Rattle.clnp_world.proofs.network.Network.put_all_out.Goals as goal
 use Rattle.std.proofs.lemmas.Option.{slice_get_read}
 
 pub loop-output-init : goal.loop-output-init
-loop-output-init c = record {
-  puts = puts_none c.args.self.now c.args.lines.now c.args.place c.args.came;
+loop-output-init g c = record {
+  puts = puts_none c.args.self.now (g.L.LineSink.taken c.args.lines.now) c.args.place c.args.came;
   systems = refl;
   clock = refl;
   copies = omega arith;
 }
 
 pub loop-output-preserved : goal.loop-output-preserved
-loop-output-preserved c =
+loop-output-preserved g c =
     let outputs = c.deref-output-items.result.now in
     let at = slice_get_read outputs _ c.loop-output.output-index c.output-item.result refl (omega arith) c.output-item.is in
     let one = take_push outputs c.loop-output.output-index c.output-item.result at in
     record {
-      puts = subst (λ (front : List Output). PutsOut c.args.self.now c.put_out.new.self c.args.lines.now c.put_out.new.lines c.args.place c.args.came front) (sym one.0)
-          (puts_more c.args.self.now c.loop-output.self c.put_out.new.self c.args.lines.now c.loop-output.lines
-          c.put_out.new.lines c.args.place c.args.came (take c.loop-output.output-index outputs) c.output-item.result c.loop-output.invariant.puts
+      puts = subst (λ (front : List Output). PutsOut c.args.self.now c.put_out.new.self (g.L.LineSink.taken c.args.lines.now) (g.L.LineSink.taken c.put_out.new.lines) c.args.place c.args.came front) (sym one.0)
+          (puts_more c.args.self.now c.loop-output.self c.put_out.new.self (g.L.LineSink.taken c.args.lines.now) (g.L.LineSink.taken c.loop-output.lines)
+          (g.L.LineSink.taken c.put_out.new.lines) c.args.place c.args.came (take c.loop-output.output-index outputs) c.output-item.result c.loop-output.invariant.puts
           c.in_ok-put_out.ensures.puts);
       systems = c.in_ok-put_out.ensures.systems ∙ c.loop-output.invariant.systems;
       clock = c.in_ok-put_out.ensures.clock ∙ c.loop-output.invariant.clock;
@@ -32,7 +32,7 @@ loop-output-preserved c =
     }
 
 pub returns-clause-puts : goal.returns-clause-puts
-returns-clause-puts c = λ model system content others h there born own gives.
+returns-clause-puts g c = λ model system content others h there born own gives.
     let outputs = c.deref-output-items.result.now in
     let all : take c.loop-output.output-index outputs ≡ outputs = take_all c.loop-output.output-index outputs c.loop-output-test.false in
     c.loop-output.invariant.puts model system content others h there born own

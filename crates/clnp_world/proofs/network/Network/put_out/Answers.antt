@@ -4,15 +4,15 @@ use Rattle.clnp_world.proofs.PutSteps.{puts_note, puts_transmission}
 use Rattle.clnp_world.proofs.network.Network.put_out.Goals as goal
 
 pub returns-in-Note-clause-puts : goal.returns-in-Note-clause-puts
-returns-in-Note-clause-puts c =
+returns-in-Note-clause-puts g c =
     on_ok_weaker c.write_note.result
-    (puts_note c.args.self.now c.args.lines.now c.write_note.new.lines c.args.place c.args.came c.in-Note.note c.args.output.now c.in-Note.is)
+    (puts_note c.args.self.now (g.L.LineSink.taken c.args.lines.now) (g.L.LineSink.taken c.write_note.new.lines) c.args.place c.args.came c.in-Note.note c.args.output.now c.in-Note.is)
     c.write_note.ensures
 
 pub returns-in_ok-write_transmission-in-Transmit-clause-puts : goal.returns-in_ok-write_transmission-in-Transmit-clause-puts
-returns-in_ok-write_transmission-in-Transmit-clause-puts c =
+returns-in_ok-write_transmission-in-Transmit-clause-puts g c =
     on_ok_weaker c.put_copy.result (λ put.
-    puts_transmission c.args.self.now c.put_copy.new.self c.args.lines.now c.write_transmission.new.lines c.args.place
+    puts_transmission c.args.self.now c.put_copy.new.self (g.L.LineSink.taken c.args.lines.now) (g.L.LineSink.taken c.write_transmission.new.lines) c.args.place
     c.args.came c.origin_of-origin.result c.in-Transmit.sending c.in_ok-frame-in-Transmit.frame c.args.output.now c.in-Transmit.is
     c.in_ok-frame-in-Transmit.ensures c.origin_of-origin.ensures
     c.in_ok-write_transmission-in-Transmit.ensures put c.put_copy.ensures.others)

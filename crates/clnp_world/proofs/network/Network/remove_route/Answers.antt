@@ -7,23 +7,23 @@ use Rattle.clnp_world.proofs.ChangeSteps.{unroutes_nothing, unroutes_nowhere, un
 use Rattle.clnp_world.proofs.network.Network.remove_route.Goals as goal
 
 pub returns-then-place-len : goal.returns-then-place-len
-returns-then-place-len c =
-    unroutes_nowhere c.args.self.now c.args.lines.now c.args.place c.args.prefix.now (omega (arith, c.args.self.now.systems.ok.0))
+returns-then-place-len g c =
+    unroutes_nowhere c.args.self.now (g.L.LineSink.taken c.args.lines.now) c.args.place c.args.prefix.now (omega (arith, c.args.self.now.systems.ok.0))
 
 pub returns-in_default : goal.returns-in_default
-returns-in_default c =
+returns-in_default g c =
     let old = c.args.self.now in
     let node = c.index_mut.result.now in
-    unroutes_nothing old c.args.lines.now c.args.place node c.take_route.new.system c.args.prefix.now
+    unroutes_nothing old (g.L.LineSink.taken c.args.lines.now) c.args.place node c.take_route.new.system c.args.prefix.now
     (slice_get_read old.systems.items _ c.args.place node refl (omega (arith, old.systems.ok.0)) c.index_mut.ensures.value)
     (subst (λ (found : Option Bool). RemovesRoute found node c.take_route.new.system c.args.prefix.now) c.in_default.is c.take_route.ensures)
 
 pub returns : goal.returns
-returns c =
+returns g c =
     let old = c.args.self.now in
     let node = c.index_mut.result.now in
     on_ok_weaker c.write_note.result
-    (unroutes_there old c.args.lines.now c.write_note.new.lines c.args.place node c.take_route.new.system c.args.prefix.now c.in-Some.there
+    (unroutes_there old (g.L.LineSink.taken c.args.lines.now) (g.L.LineSink.taken c.write_note.new.lines) c.args.place node c.take_route.new.system c.args.prefix.now c.in-Some.there
     (slice_get_read old.systems.items _ c.args.place node refl (omega (arith, old.systems.ok.0)) c.index_mut.ensures.value)
     (subst (λ (found : Option Bool). RemovesRoute found node c.take_route.new.system c.args.prefix.now) c.in-Some.is c.take_route.ensures))
     c.write_note.ensures

@@ -9,20 +9,20 @@ use Rattle.clnp_world.proofs.ChangeSteps.{resizes_none, resizes_there}
 use Rattle.clnp_world.proofs.network.Network.resize.Goals as goal
 
 pub returns-then-at-subnets : goal.returns-then-at-subnets
-returns-then-at-subnets c = resizes_none c.args.self.now c.args.lines.now c.args.subnets.now c.args.subnet c.args.mtu (omega arith)
+returns-then-at-subnets g c = resizes_none c.args.self.now (g.L.LineSink.taken c.args.lines.now) c.args.subnets.now c.args.subnet c.args.mtu (omega arith)
 
 pub returns : goal.returns
-returns c =
+returns g c =
     let old = c.args.self.now in
     let mid = c.keep_mtu.new.self in
     let code = c.resize_each.new.self in
     let declared = c.index-subnets-at.result in
-    on_ok_weaker c.resizing.result (λ line.
-    resizes_there old mid code c.args.lines.now c.resizing.new.self c.args.subnets.now c.args.subnet c.args.mtu declared
+    on_ok_weaker c.take.result (λ line.
+    resizes_there old mid code (g.L.LineSink.taken c.args.lines.now) (g.L.LineSink.taken c.take.new.self) c.args.subnets.now c.args.subnet c.args.mtu declared
     (subst (λ (at : ℕ). slice_get c.args.subnets.now at ≡ Some declared) c.from-at.ensures
     (slice_get_read c.args.subnets.now _ c.from-at.result declared refl (omega arith) c.index-subnets-at.is))
     c.requires
     (subst (λ (at : ℕ). mid.mtus.items ≡ slice_set old.mtus.items at c.args.mtu) c.from-at.ensures c.keep_mtu.ensures.mtus)
     c.keep_mtu.ensures.others c.resize_each.ensures
-    (subst (λ (name : List ℕ). Gains c.args.lines.now c.resizing.new.self (Resized code.clock name c.args.mtu ∷ [])) c.name.ensures line))
-    c.resizing.ensures
+    (subst (λ (name : List ℕ). Gains (g.L.LineSink.taken c.args.lines.now) (g.L.LineSink.taken c.take.new.self) (Resized code.clock name c.args.mtu ∷ [])) c.name.ensures line))
+    c.take.ensures

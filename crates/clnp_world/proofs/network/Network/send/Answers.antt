@@ -7,9 +7,9 @@ use Rattle.clnp_world.specs.Parts.{Follows}
 use Rattle.clnp_world.proofs.network.Network.send.Goals as goal
 
 pub returns : goal.returns
-returns c =
+returns g c =
     on_ok_weaker c.send_octets.result (λ sends model h.
-    subst (λ (octets : List ℕ). Follows c.send_octets.new.self c.args.lines.now c.send_octets.new.lines
+    subst (λ (octets : List ℕ). Follows c.send_octets.new.self (g.L.LineSink.taken c.args.lines.now) (g.L.LineSink.taken c.send_octets.new.lines)
     (network.asks model c.args.place (AsksToSend c.args.from c.args.to octets c.args.ask.now)))
     (c.deref.ensures.value ∙ c.in_ok-octets.ensures) (sends model h))
     c.send_octets.ensures

@@ -3,8 +3,8 @@ use Rattle.clnp_world.proofs.TickSteps.{TicksTo}
 use Rattle.clnp_world.proofs.network.Network.tick_each.Given as goal
 
 abbrev pub invariant-loop-place : goal.invariant-loop-place
-invariant-loop-place l = record {
-  ticks : TicksTo l.initial.self l.self l.initial.lines l.lines l.place;
+invariant-loop-place g l = record {
+  ticks : TicksTo l.initial.self l.self (g.L.LineSink.taken l.initial.lines) (g.L.LineSink.taken l.lines) l.place;
   systems : vec_len l.self.systems ≡ vec_len l.initial.self.systems;
   clock : l.self.clock ≡ l.initial.self.clock;
 }

@@ -5,7 +5,7 @@ use Rattle.clnp_world.proofs.TickSteps.{all_may, clock_goes_on}
 use Rattle.clnp_world.proofs.network.Network.tick_one.Goals as goal
 
 pub tick_each-requires-clause-running : goal.tick_each-requires-clause-running
-tick_each-requires-clause-running c =
+tick_each-requires-clause-running g c =
     let old = c.args.self.now in
     let model = c.requires.running.0 in
     let h = c.requires.running.1 in (
@@ -15,7 +15,7 @@ tick_each-requires-clause-running c =
     )
 
 pub returns : goal.returns
-returns c =
+returns g c =
     let old = c.args.self.now in
     on_ok_weaker c.tick_each.result
     (λ ticks model h. ticks (record model { clock = model.clock + 1 })

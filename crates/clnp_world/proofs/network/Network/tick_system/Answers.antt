@@ -5,21 +5,21 @@ use Rattle.clnp_world.proofs.TickSteps.{alone_early, alone_runs, ticks_alone, ti
 use Rattle.clnp_world.proofs.network.Network.tick_system.Goals as goal
 
 pub returns-then-place-len : goal.returns-then-place-len
-returns-then-place-len c = ticks_nobody c.args.self.now c.args.lines.now c.args.place (omega (arith, c.args.self.now.systems.ok.0))
+returns-then-place-len g c = ticks_nobody c.args.self.now (g.L.LineSink.taken c.args.lines.now) c.args.place (omega (arith, c.args.self.now.systems.ok.0))
 
 pub go_on-requires-clause-running : goal.go_on-requires-clause-running
-go_on-requires-clause-running c =
+go_on-requires-clause-running g c =
     alone_runs c.args.self.now c.args.place c.moment_at-now.result c.max-self.result (omega (arith, c.args.self.now.systems.ok.0))
     c.moment_at-now.ensures.moment c.max-self.ensures c.requires.running
 
 pub go_on-requires-clause-clock : goal.go_on-requires-clause-clock
-go_on-requires-clause-clock c =
+go_on-requires-clause-clock g c =
     alone_early c.args.self.now c.args.place c.moment_at-now.result c.max-self.result (omega (arith, c.args.self.now.systems.ok.0))
     c.moment_at-now.ensures.moment c.max-self.ensures c.requires.running c.requires.clock
 
 pub returns : goal.returns
-returns c =
+returns g c =
     on_ok_weaker c.go_on.result
-    (ticks_alone c.args.self.now c.go_on.new.self c.args.lines.now c.go_on.new.lines c.args.place c.moment_at-now.result c.max-self.result
+    (ticks_alone c.args.self.now c.go_on.new.self (g.L.LineSink.taken c.args.lines.now) (g.L.LineSink.taken c.go_on.new.lines) c.args.place c.moment_at-now.result c.max-self.result
     (omega (arith, c.args.self.now.systems.ok.0)) c.moment_at-now.ensures.moment c.max-self.ensures)
     c.go_on.ensures.follows

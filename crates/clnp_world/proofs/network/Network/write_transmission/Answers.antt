@@ -6,12 +6,12 @@ use Rattle.clnp_world.proofs.PutSteps.{same_transmission, counted}
 use Rattle.clnp_world.proofs.network.Network.write_transmission.Goals as goal
 
 pub returns : goal.returns
-returns c =
-    on_ok_weaker c.transmission.result (λ written model system h there.
+returns g c =
+    on_ok_weaker c.take.result (λ written model system h there.
     let length_is : c.len.result ≡ length c.args.self.now.copies.items = omega (arith, c.len.ensures, c.args.self.now.copies.ok.0) in
-    same_transmission c.args.lines.now c.transmission.new.self c.moment_at-now.result system.moment c.name-name.result.now
+    same_transmission (g.L.LineSink.taken c.args.lines.now) (g.L.LineSink.taken c.take.new.self) c.moment_at.result system.moment c.name.result.now
     system.configuration.name c.len.result (length model.copies) c.args.port c.args.target c.args.frame.now c.bytes.result.now
-    (c.moment_at-now.ensures.moment model system h there)
-    (c.name-name.ensures ∙ ap (λ (s : SystemConfiguration). s.name) (c.config_at.ensures model system h there))
+    (c.moment_at.ensures.moment model system h there)
+    (c.name.ensures ∙ ap (λ (s : SystemConfiguration). s.name) (c.config_at.ensures model system h there))
     (length_is ∙ counted c.args.self.now model h) c.bytes.ensures written)
-    c.transmission.ensures
+    c.take.ensures
