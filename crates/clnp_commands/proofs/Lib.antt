@@ -5,5 +5,6 @@ pub mod KindWords
 pub mod Named
 pub mod Counting
 pub mod Still
+pub mod Plays
 pub mod Storms
 pub mod Fit

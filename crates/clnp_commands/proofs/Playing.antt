@@ -11,8 +11,8 @@ use Rattle.clnp_world.specs.ClnpNetwork.LabelledNetwork.{after, first_world, is_
 use Rattle.clnp_world.specs.ClnpNetwork.Run.{ending, last_world, moves_of_plan, stopped_at, told, told_lines, told_of, until_full, world_after, world_end}
 use Rattle.clnp_world.specs.State.{WorldState}
 use Rattle.clnp_world.specs.Stands.{Stands}
-use Rattle.clnp_commands.specs.declared.sim.Stop.{Stop}
-use Rattle.clnp_commands.specs.declared.sim.Stop.TheVariants as stop
+use Rattle.clnp_commands.specs.declared.play.Stop.{Stop}
+use Rattle.clnp_commands.specs.declared.play.Stop.TheVariants as stop
 use Rattle.capture_commands.specs.CommandBase.ByLine.{FlushOf}
 use Rattle.clnp_commands.specs.Play.{FullOf, PieceOf, UnderWay, StopOf, RunStopOf, RunOf}
 use Rattle.capture_commands.proofs.CommandBase.Fronts.{front-behind, front-longer}
@@ -133,13 +133,16 @@ module _ (form : Telling) (plan : Plan) (model : network.LabelledNetwork) (past 
   full_before move octets c stop.WriteFault u full is p = StopOf-longer form plan model past (move ∷ []) a c stop.WriteFault (cut_short c u p)
   full_before move octets c stop.NoMemory u full is p = absurd p
 
+-- the moves so far, the next ones, and those that are left
+pub all_behind : (past all made next later : List Move) → all ≡ (made ++ next) ++ later → past ++ all ≡ ((past ++ made) ++ next) ++ later
+all_behind past all made next later split =
+    ap (λ (t : List Move). past ++ t) split ∙ (sym (append_assoc past (made ++ next) later) ∙ ap (λ (t : List Move). t ++ later) (sym (append_assoc past made next)))
+
 -- playing stopped in the moves that come next, of all that were to be made
 pub stopped_next : (form : Telling) (plan : Plan) (model : network.LabelledNetwork) (past all made next later : List Move) (a b : Option (List ℕ)) (e : Stop)
     → all ≡ (made ++ next) ++ later → StopOf form plan model ((past ++ made) ++ next) a b e → StopOf form plan model (past ++ all) a b e
 stopped_next form plan model past all made next later a b e split q =
-    let same : past ++ all ≡ ((past ++ made) ++ next) ++ later =
-    ap (λ (t : List Move). past ++ t) split ∙ (sym (append_assoc past (made ++ next) later) ∙ ap (λ (t : List Move). t ++ later) (sym (append_assoc past made next))) in
-    rw same (StopOf-longer form plan model ((past ++ made) ++ next) later a b e q)
+    rw (all_behind past all made next later split) (StopOf-longer form plan model ((past ++ made) ++ next) later a b e q)
 
 -- where playing the moves of a scenario stopped, so did the writing of its journal or trace
 pub run_stopped : (form : Telling) (plan : Plan) (a b : Option (List ℕ)) (e : Stop) → StopOf form plan (first_world plan) (moves_of_plan plan) a b e → RunStopOf form plan a b e

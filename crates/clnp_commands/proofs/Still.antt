@@ -13,10 +13,10 @@ use Rattle.clnp_world.specs.Lines.{both, no_lines, tally}
 use Rattle.clnp_world.specs.State.{WorldState}
 use Rattle.clnp_world.specs.Stands.{Stands}
 use Rattle.clnp_world.specs.declared.lines.Counts.{Counts}
-use Rattle.clnp_commands.specs.Counting.{tally_of}
+use Rattle.clnp_commands.specs.Counting.{Counted, tally_of}
 use Rattle.clnp_commands.specs.Play.{UnderWay}
 use Rattle.clnp_commands.proofs.Runs.{full_weight-behind, replicate_next, told_of_more, world_after-append}
-use Rattle.clnp_commands.proofs.Counting.{none-both}
+use Rattle.clnp_commands.proofs.Counting.{both-none, none-both, tally_of-append}
 use Rattle.clnp_machine.proofs.ClnpBase.Choices.{if_none}
 
 -- to settle a copy where none is left changes nothing
@@ -91,6 +91,15 @@ stands_rest plan model move made times code within is settled stands =
     ∙ (r.still.world ∙ world_after-append plan model front (move ∷ [])))))
     stands
 
+-- some moves, the same move some times, once more, and as often as is left
+all_of_it : (past : List Move) (move : Move) (made times : ℕ) → made < times
+    → ((past ++ replicate made move) ++ move ∷ []) ++ replicate (times - (made + 1)) move ≡ past ++ replicate times move
+all_of_it past move made times within =
+    let rest : List Move = replicate (times - (made + 1)) move in
+    ap (λ (t : List Move). t ++ rest) (append_assoc past (replicate made move) (move ∷ []))
+    ∙ (append_assoc past (replicate made move ++ move ∷ []) rest
+    ∙ ap (λ (t : List Move). past ++ t) (sym (replicate_next made times move within)))
+
 pub plays_rest : (form : Telling) (plan : Plan) (model : LabelledNetwork) (past : List Move) (move : Move) (made times : ℕ) (between code : WorldState) (a b c : Option (List ℕ)) (block new : List ℕ)
     → made < times → move ≡ SettleOne
     → nat_le (length (world_after plan model (past ++ replicate made move)).copies) (world_after plan model (past ++ replicate made move)).cursor ≡ true
@@ -102,15 +111,11 @@ plays_rest form plan model past move made times between code a b c block new wit
     let so_far : List Move = front ++ move ∷ [] in
     let rest : List Move = replicate (times - (made + 1)) move in
     let r = rests plan model front move (times - (made + 1)) is settled in
-    let all : so_far ++ rest ≡ past ++ replicate times move
-    = ap (λ (t : List Move). t ++ rest) (append_assoc past (replicate made move) (move ∷ []))
-    ∙ (append_assoc past (replicate made move ++ move ∷ []) rest
-    ∙ ap (λ (t : List Move). past ++ t) (sym (replicate_next made times move within))) in
     let here : world_after plan (world_after plan model u.made) u.waiting ≡ world_after plan model so_far
     = sym (ap (world_after plan model) u.split ∙ world_after-append plan model u.made u.waiting) in
     let none : told_of form plan (world_after plan (world_after plan model u.made) u.waiting) rest ≡ []
     = ap (λ (w : LabelledNetwork). told_of form plan w rest) here ∙ r.still.text form in
-    subst (λ (moves : List Move). UnderWay form plan model moves code a c new) all
+    subst (λ (moves : List Move). UnderWay form plan model moves code a c new) (all_of_it past move made times within)
     record {
       made = u.made;
       waiting = u.waiting ++ rest;
@@ -122,4 +127,25 @@ plays_rest form plan model past move made times between code a b c block new wit
           ∙ sym (told_of_more form plan (world_after plan model u.made) u.waiting rest
           ∙ (ap (λ (t : List ℕ). told_of form plan (world_after plan model u.made) u.waiting ++ t) none
           ∙ append-nil (told_of form plan (world_after plan model u.made) u.waiting)));
+    }
+
+-- moves that are counted
+pub counts_rest : (plan : Plan) (model : LabelledNetwork) (past : List Move) (move : Move) (made times : ℕ) (between code : WorldState) (old new : Counts)
+    → made < times → move ≡ SettleOne
+    → nat_le (length (world_after plan model (past ++ replicate made move)).copies) (world_after plan model (past ++ replicate made move)).cursor ≡ true
+    → Counted plan model (past ++ replicate made move) between old
+    → Counted plan model ((past ++ replicate made move) ++ move ∷ []) code new
+    → Counted plan model (past ++ replicate times move) code new
+counts_rest plan model past move made times between code old new within is settled before u =
+    let front : List Move = past ++ replicate made move in
+    let so_far : List Move = front ++ move ∷ [] in
+    let rest : List Move = replicate (times - (made + 1)) move in
+    let r = rests plan model front move (times - (made + 1)) is settled in
+    subst (λ (moves : List Move). Counted plan model moves code new) (all_of_it past move made times within)
+    record {
+      room = full_weight-behind plan model so_far rest u.room ∙ rests_room plan model front move (times - (made + 1)) r before.room u.room;
+      stands = subst (λ (w : LabelledNetwork). Stands code w) (sym (world_after-append plan model so_far rest ∙ r.still.world)) u.stands;
+      counted = u.counted
+          ∙ sym (tally_of-append plan model so_far rest
+          ∙ (ap (λ (c : Counts). both (tally_of plan model so_far) c) r.still.counted ∙ both-none (tally_of plan model so_far)));
     }

@@ -1,6 +1,6 @@
 -- The moves of a run whose lines are counted, and the scenario of a seed.
-use Rattle.std.proofs.Common.{◌≡◌, ℕ, ◌+◌, ◌-◌, ◌<◌, nat_le, true, inl, List, [], ◌∷◌, ◌++◌, Option, None, Some, Ok, refl, subst, sym, ap, ◌∙◌, append-nil}
-use Rattle.std.specs.Prelude.{length, replicate}
+use Rattle.std.proofs.Common.{◌≡◌, ℕ, inl, List, [], Option, None, Some, Ok, refl, subst, sym, ap, ◌∙◌, append-nil}
+use Rattle.std.specs.Prelude.{length}
 use Rattle.std.specs.Io.KnownBytes.{Appends, Keeps}
 use Rattle.std.proofs.KnownBytes.{Appends-nil}
 use Rattle.clnp_machine.specs.ClnpBase.Streams.{AppendsFront}
@@ -8,15 +8,12 @@ use Rattle.clnp_machine.specs.ClnpPlan.declared.journal.Telling.TheVariants as t
 use Rattle.clnp_world.specs.Scenario.Scenario.{IsFit, Plan}
 use Rattle.clnp_world.specs.Scenario.Seeds.{storm}
 use Rattle.clnp_world.specs.Scenario.declared.event.Move.{Move}
-use Rattle.clnp_world.specs.Scenario.declared.event.Move.TheVariants.{SettleOne}
 use Rattle.clnp_world.specs.ClnpNetwork.LabelledNetwork as network
 use Rattle.clnp_world.specs.ClnpNetwork.LabelledNetwork.{first_world}
-use Rattle.clnp_world.specs.ClnpNetwork.Run.{full_weight, journal, last_world, moves_of_plan, stopped_at, text_of, world_after, world_end}
+use Rattle.clnp_world.specs.ClnpNetwork.Run.{journal, last_world, moves_of_plan, stopped_at, text_of, world_after, world_end}
 use Rattle.clnp_world.specs.State.{WorldState}
-use Rattle.clnp_world.specs.Stands.{Stands}
-use Rattle.clnp_world.specs.declared.world.WorldRefusal.{WorldRefusal}
-use Rattle.clnp_world.specs.declared.world.WorldRefusal.TheVariants as world_refusal
 use Rattle.clnp_world.specs.Lines.{both, no_lines}
+use Rattle.clnp_world.specs.Stands.{Stands}
 use Rattle.clnp_world.specs.declared.lines.Counts.{Counts}
 use Rattle.clnp_commands.specs.declared.storm.Summary.{Summary}
 use Rattle.capture_commands.specs.CommandBase.declared.status.Status.{Status}
@@ -25,64 +22,17 @@ use Rattle.capture_commands.specs.CommandBase.ByLine.{EndOf}
 use Rattle.clnp_commands.specs.Tasks.{run_status, storm_task}
 use Rattle.capture_commands.specs.CommandBase.ComesAs.{ComesAs}
 use Rattle.clnp_commands.specs.Storm.{counts_of, line_of_run, line_unless, storm_line, storm_stopped_at, summary_text}
-use Rattle.clnp_commands.specs.Counting.{Counted, StopsAt, SumOf, tally_of}
-use Rattle.clnp_commands.proofs.Counting.{counts_of-append, moves_counts, tally_of-append, text_of-ends, both-assoc, both-none, none-both}
+use Rattle.clnp_commands.specs.Counting.{Counted, SumOf}
+use Rattle.clnp_commands.proofs.Counting.{counts_of-append, moves_counts, text_of-ends, both-none}
 use Rattle.clnp_commands.proofs.KindWords.{end_counts}
 use Rattle.clnp_commands.proofs.Named.{names_first, names_subnets}
 use Rattle.clnp_commands.proofs.Playing.{told_whole}
-use Rattle.clnp_commands.proofs.Still.{rests, rests_room}
-use Rattle.clnp_commands.proofs.Runs.{world_after-append, full_weight-behind, full_stays, replicate_next, all_are_made}
+use Rattle.clnp_commands.proofs.Runs.{all_are_made}
 
-module _ (plan : Plan) (model : network.LabelledNetwork) where
-  -- no move was made yet
-  pub count_none : (code : WorldState) (counts : Counts) → Stands code model → Counted plan model [] code counts counts
-  count_none code counts stands = record {
-    room = refl;
-    stands = stands;
-    counted = sym (both-none counts);
-  }
-
-  -- the moves that come next
-  pub count_more : (made more : List Move) (between code : WorldState) (old middle new : Counts)
-      → (c : Counted plan model made between old middle) → Counted plan (world_after plan model made) more code middle new
-      → Counted plan model (made ++ more) code old new
-  count_more made more between code old middle new c d = record {
-    room = full_weight-behind plan model made more c.room ∙ d.room;
-    stands = rw (world_after-append plan model made more) d.stands;
-    counted =
-        d.counted
-        ∙ (ap (λ (t : Counts). both t (tally_of plan (world_after plan model made) more)) c.counted
-        ∙ (both-assoc old (tally_of plan model made) (tally_of plan (world_after plan model made) more)
-        ∙ ap (λ (t : Counts). both old t) (sym (tally_of-append plan model made more))));
-  }
-
-  -- counting stopped in the moves that come next, of all that were to be made
-  pub count_stopped : (all made next later : List Move) (between : WorldState) (old middle : Counts) (refused : WorldRefusal)
-      → all ≡ (made ++ next) ++ later → Counted plan model made between old middle
-      → StopsAt plan (world_after plan model made) next refused → StopsAt plan model all refused
-  count_stopped all made next later between old middle (world_refusal.WorldFull octets) split c d =
-      let here : full_weight plan model (made ++ next) ≡ Some octets = full_weight-behind plan model made next c.room ∙ d in
-      let stays = full_stays plan model (made ++ next) later octets here in
-      ap (full_weight plan model) split ∙ stays.0
-  count_stopped all made next later between old middle world_refusal.NoMemory split c d = tt
-
--- so many times the same move is made, where after some of them no copy is left to settle
-pub count_rest : (plan : Plan) (model : network.LabelledNetwork) (move : Move) (made times : ℕ) (between code : WorldState) (old middle new : Counts)
-    → made < times → move ≡ SettleOne
-    → nat_le (length (world_after plan model (replicate made move)).copies) (world_after plan model (replicate made move)).cursor ≡ true
-    → Counted plan model (replicate made move) between old middle
-    → Counted plan (world_after plan model (replicate made move)) (move ∷ []) code middle new
-    → Counted plan model (replicate times move) code old new
-count_rest plan model move made times between code old middle new within is settled before one =
-    let front : List Move = replicate made move in
-    let so_far : Counted plan model (front ++ move ∷ []) code old new = count_more plan model front (move ∷ []) between code old middle new before one in
-    let r = rests plan model front move (times - (made + 1)) is settled in
-    subst (λ (moves : List Move). Counted plan model moves code old new) (sym (replicate_next made times move within))
-    (count_more plan model (front ++ move ∷ []) (replicate (times - (made + 1)) move) code code old new new so_far record {
-      room = rests_room plan model front move (times - (made + 1)) r before.room so_far.room;
-      stands = subst (λ (w : network.LabelledNetwork). Stands code w) (sym r.still.world) so_far.stands;
-      counted = sym (ap (λ (t : Counts). both new t) r.still.counted ∙ both-none new);
-    })
+-- no move was made yet
+pub count_none : (plan : Plan) (code : WorldState) (counts : Counts) → Stands code (first_world plan) → counts ≡ no_lines
+    → Counted plan (first_world plan) [] code counts
+count_none plan code counts stands none = record { room = refl; stands = stands; counted = none }
 
 made_of : (seed e c t events copies clock : ℕ) (a counts : Counts) → e ≡ events → c ≡ copies → t ≡ clock → a ≡ counts → Path Summary
     (record { seed = seed; events = e; copies = c; counts = a; clock = t }) (record { seed = seed; events = events; copies = copies; counts = counts; clock = clock })
@@ -90,7 +40,7 @@ made_of seed e c t events copies clock a counts p q r s = rw (p, q, r, s) refl
 
 -- a run that wasn't stopped: the lines of all moves are counted, and the journal's last line counts for nothing
 pub summary_is : (seed events copies clock : ℕ) (plan : Plan) (code : WorldState) (counts : Counts) → IsFit plan
-    → (c : Counted plan (first_world plan) (moves_of_plan plan) code no_lines counts)
+    → (c : Counted plan (first_world plan) (moves_of_plan plan) code counts)
     → events ≡ length plan.events
     → copies ≡ length (world_after plan (first_world plan) (moves_of_plan plan)).copies
     → clock ≡ (world_after plan (first_world plan) (moves_of_plan plan)).clock
@@ -101,7 +51,7 @@ summary_is seed events copies clock plan code counts fit c events_are copies_are
     let last : network.LabelledNetwork = world_after plan first moves in
     let same : last ≡ last_world plan = ap (world_after plan first) (sym (all_are_made plan first moves c.room)) in
     let of_moves : counts ≡ counts_of (text_of plan first moves) =
-    c.counted ∙ (none-both (tally_of plan first moves) ∙ sym (moves_counts plan first moves (names_subnets plan fit) (names_first plan fit))) in
+    c.counted ∙ sym (moves_counts plan first moves (names_subnets plan fit) (names_first plan fit)) in
     let of_all : counts_of (journal plan) ≡ counts_of (text_of plan first moves) =
     ap counts_of (told_whole telling.Journal plan c.room)
     ∙ (counts_of-append (text_of plan first moves) (world_end last) (text_of-ends plan first moves)

@@ -6,6 +6,7 @@ pub mod Time
 pub mod Play
 pub mod Storm
 pub mod Counting
+pub mod Playing
 pub mod Words
 pub mod Tasks
 pub mod Serves

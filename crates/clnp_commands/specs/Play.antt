@@ -9,8 +9,8 @@ use Rattle.clnp_world.specs.ClnpNetwork.LabelledNetwork as network
 use Rattle.clnp_world.specs.ClnpNetwork.Run.{told, told_of, world_after, full_weight, stopped_at, until_full}
 use Rattle.clnp_world.specs.State.{WorldState}
 use Rattle.clnp_world.specs.Stands.{Stands}
-use Rattle.clnp_commands.specs.declared.sim.Stop.{Stop}
-use Rattle.clnp_commands.specs.declared.sim.Stop.TheVariants as stop
+use Rattle.clnp_commands.specs.declared.play.Stop.{Stop}
+use Rattle.clnp_commands.specs.declared.play.Stop.TheVariants as stop
 use Rattle.clnp_commands.specs.Sim.{AppendsMoves, AppendsWholeMoves}
 
 -- What writing a piece comes to: it was written; a front of it was; or nothing was.

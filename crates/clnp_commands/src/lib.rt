@@ -7,6 +7,7 @@
 mod advise;
 mod command;
 mod migrate;
+mod play;
 mod sim;
 mod storm;
 mod top;

@@ -1,20 +1,22 @@
 //! The commands `sim` and `trace`: the journal of a scenario, or its trace, written in blocks of whole moves.
-ghost use Rattle.std.specs.Prelude.{◌≡◌, ◌≤◌, ◌++◌, List, Option, [], ◌∷◌, ℕ, length, replicate, Err, OnOk};
+ghost use Rattle.std.specs.Prelude.{◌≡◌, ◌≤◌, ◌++◌, List, Option, [], ◌∷◌, ℕ, length, Err, OnOk};
 ghost use Rattle.clnp_machine.specs.ClnpBase.Streams.{Rose};
 ghost use Rattle.clnp_machine.specs.ClnpBase.Text.{lines_of};
-ghost use Rattle.clnp_world.specs.Scenario.Scenario.{IsFit, moves_of};
+ghost use Rattle.clnp_world.specs.Scenario.Scenario.{IsFit};
 ghost use Rattle.clnp_world.specs.ClnpNetwork.LabelledNetwork as network;
-ghost use Rattle.clnp_world.specs.ClnpNetwork.Run.{moves_of_plan, world_after, world_end};
+ghost use Rattle.clnp_world.specs.ClnpNetwork.Run.{world_after, world_end};
 ghost use Rattle.clnp_world.specs.Stands.{Stands};
 ghost use Rattle.capture_commands.specs.CommandBase.ComesAs.{ComesAs, most_input};
 ghost use Rattle.clnp_commands.specs.Tasks.{run_task};
 ghost use Rattle.clnp_commands.specs.Play.{FullOf, RunOf, PieceOf, PlayOf, UnderWay};
+ghost use Rattle.clnp_commands.specs.Playing.{Waits};
 ghost use Rattle.clnp_commands.specs.Time.{HasTime};
 
+use crate::play::{Player, Stop, play_events};
 use capture_commands::command_base::{Status, flush, flush_full};
 use clnp_machine::clnp_base::{Failed, Sink};
 use clnp_machine::system_plan::Telling;
-use clnp_world::scenarios::{Event, Move, Scenario, ScenarioRefusal};
+use clnp_world::scenarios::{Move, Scenario, ScenarioRefusal};
 use clnp_world::{World, WorldRefusal};
 use std::alloc::Global;
 
@@ -44,15 +46,6 @@ pub(crate) fn few_lines()
     ensures { (text : List ℕ) → length (lines_of text) ≤ length text }
 {}
 
-/// Why the writing of a journal or a trace stopped.
-#[derive(Clone, Copy, PartialEq, Eq)]
-enum Stop {
-    /// The copies weigh too much: so many octets.
-    WorldFull { octets: u64 },
-    WriteFault,
-    NoMemory,
-}
-
 /// Plays a scenario: makes its moves and writes their lines, and then the last line.
 fn play<K: Sink>(
     alloc: Global,
@@ -67,94 +60,48 @@ fn play<K: Sink>(
 {
     match World::new(alloc, scenario) {
         Ok(mut world) => {
-            let mut block = Vec::new(alloc);
-            play_events(alloc, scenario, telling, &mut world, &mut block, sink)?;
-            write_end(alloc, &world, &mut block, sink)
+            let block = Vec::new(alloc);
+            let mut blocks = Blocks { telling, block };
+            play_events(alloc, scenario, &mut world, &mut blocks, sink)?;
+            write_end(alloc, &world, &mut blocks.block, sink)
         }
         Err(_) => Err(Stop::NoMemory),
     }
 }
 
-/// Makes the moves of all events, puts their lines into the block, and writes it where it is full.
-fn play_events<K: Sink>(
-    alloc: Global,
-    scenario: &Scenario,
+/// The text of the lines of moves, which is written in blocks.
+#[derive(Drop)]
+struct Blocks {
     telling: Telling,
-    world: &mut World,
-    block: &mut Vec<u8>,
-    sink: &mut K,
-) -> Result<(), Stop>
-    requires { HasTime world.old (moves_of_plan scenario.now) }
-    ensures later { K.faults sink.old ≤ K.faults sink.new }
-    ensures comes_to { (model : network.LabelledNetwork) (past : List Move) (before : Option (List ℕ))
-        → UnderWay telling scenario.now model past world.old before (K.written sink.old) block.old.items
-        → PlayOf telling scenario.now model (past ++ moves_of_plan scenario.now) world.new before (K.written sink.new) block.new.items result }
-    ensures failed { result ≡ Err Stop.WriteFault → Rose (K.faults sink.old) (K.faults sink.new) }
-{
-    for (place, event) in scenario.events().iter().enumerate() {
-        play_event(alloc, scenario, telling, place, event, world, block, sink)?;
-    }
-    Ok(())
+    /// What waits to be written.
+    block: Vec<u8>,
 }
 
-/// Makes the moves of the event at a place, puts their lines into the block, and writes it where it
-/// is full.
-fn play_event<K: Sink>(
-    alloc: Global,
-    scenario: &Scenario,
-    telling: Telling,
-    place: usize,
-    event: &Event,
-    world: &mut World,
-    block: &mut Vec<u8>,
-    sink: &mut K,
-) -> Result<(), Stop>
-    requires { HasTime world.old (moves_of place event.now) }
-    ensures later { K.faults sink.old ≤ K.faults sink.new }
-    ensures stands { OnOk result ((model : network.LabelledNetwork) → Stands world.old model
-        → Stands world.new (world_after scenario.now model (moves_of place event.now))) }
-    ensures comes_to { (model : network.LabelledNetwork) (past : List Move) (before : Option (List ℕ))
-        → UnderWay telling scenario.now model past world.old before (K.written sink.old) block.old.items
-        → PlayOf telling scenario.now model (past ++ moves_of place event.now) world.new before (K.written sink.new) block.new.items result }
-    ensures failed { result ≡ Err Stop.WriteFault → Rose (K.faults sink.old) (K.faults sink.new) }
-{
-    let (mv, times) = event.moves(place);
-    play_times(alloc, scenario, telling, &mv, times, world, block, sink)
-}
+impl Player for Blocks {
+    ghost played = { λ blocks. Waits blocks.telling blocks.block.items };
 
-/// Makes one move so many times, puts the lines into the block, and writes it where it is full.
-fn play_times<K: Sink>(
-    alloc: Global,
-    scenario: &Scenario,
-    telling: Telling,
-    mv: &Move,
-    count: u32,
-    world: &mut World,
-    block: &mut Vec<u8>,
-    sink: &mut K,
-) -> Result<(), Stop>
-    requires { HasTime world.old (replicate count mv.now) }
-    ensures later { K.faults sink.old ≤ K.faults sink.new }
-    ensures stands { OnOk result ((model : network.LabelledNetwork) → Stands world.old model
-        → Stands world.new (world_after scenario.now model (replicate count mv.now))) }
-    ensures comes_to { (model : network.LabelledNetwork) (past : List Move) (before : Option (List ℕ))
-        → UnderWay telling scenario.now model past world.old before (K.written sink.old) block.old.items
-        → PlayOf telling scenario.now model (past ++ replicate count mv.now) world.new before (K.written sink.new) block.new.items result }
-    ensures failed { result ≡ Err Stop.WriteFault → Rose (K.faults sink.old) (K.faults sink.new) }
-{
-    for _made in 0..count {
-        let settled = world.is_settled();
-        play_move(alloc, scenario, telling, mv, world, block, sink)?;
-        // To settle a copy where none is left changes nothing, however often.
-        if settled && matches!(mv, Move::SettleOne) {
-            return Ok(());
-        }
+    fn play_move<K: Sink>(
+        &mut self,
+        alloc: Global,
+        scenario: &Scenario,
+        mv: &Move,
+        world: &mut World,
+        sink: &mut K,
+    ) -> Result<(), Stop> {
+        write_move(
+            alloc,
+            scenario,
+            self.telling,
+            mv,
+            world,
+            &mut self.block,
+            sink,
+        )
     }
-    Ok(())
 }
 
 /// Makes one move, puts its lines into the block, and writes it where it is full.
-fn play_move<K: Sink>(
+fn write_move<K: Sink>(
     alloc: Global,
     scenario: &Scenario,
     telling: Telling,

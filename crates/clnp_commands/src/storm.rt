@@ -1,20 +1,17 @@
 //! The command `storm`: what a run of the scenario of a seed counts.
-ghost use Rattle.std.specs.Prelude.{◌≡◌, ◌≤◌, ◌++◌, [], ◌∷◌, OnOk, replicate};
+ghost use Rattle.std.specs.Prelude.{◌≡◌, ◌≤◌, ◌++◌, OnOk, Err};
 ghost use Rattle.clnp_machine.specs.ClnpBase.Streams.{Rose};
-ghost use Rattle.clnp_world.specs.Scenario.Scenario.{moves_of};
-ghost use Rattle.clnp_world.specs.ClnpNetwork.LabelledNetwork as network;
-ghost use Rattle.clnp_world.specs.ClnpNetwork.Run.{moves_of_plan};
-ghost use Rattle.clnp_world.specs.Stands.{Stands};
 ghost use Rattle.capture_commands.specs.CommandBase.ByLine.{EndOf};
 ghost use Rattle.capture_commands.specs.CommandBase.ComesAs.{ComesAs};
 ghost use Rattle.clnp_commands.specs.Tasks.{storm_task};
-ghost use Rattle.clnp_commands.specs.Time.{HasTime};
 ghost use Rattle.clnp_commands.specs.Storm.{counts_text, summary_text};
-ghost use Rattle.clnp_commands.specs.Counting.{CountOf, SumOf};
+ghost use Rattle.clnp_commands.specs.Counting.{SumOf};
+ghost use Rattle.clnp_commands.specs.Playing.{Tallies};
 
+use crate::play::{Player, Stop, play_events};
 use capture_commands::command_base::{Status, push_number};
 use clnp_machine::clnp_base::{NoMemory, Sink, push, write_all};
-use clnp_world::scenarios::{Event, Move, Scenario, from_seed};
+use clnp_world::scenarios::{Move, Scenario, from_seed};
 use clnp_world::{Counts, World, WorldRefusal};
 use std::alloc::Global;
 
@@ -62,10 +59,11 @@ pub(crate) fn storm<K: Sink>(alloc: Global, seed: u64, sink: &mut K) -> Status
     let Ok(scenario) = from_seed(alloc, seed) else {
         return Status::NoMemory;
     };
-    match sum_up(alloc, seed, &scenario) {
+    match sum_up(alloc, seed, &scenario, sink) {
         Ok(summary) => write_line(alloc, summary, sink),
-        Err(WorldRefusal::WorldFull { octets }) => Status::WorldFull { octets },
-        Err(WorldRefusal::NoMemory) => Status::NoMemory,
+        Err(Stop::WorldFull { octets }) => Status::WorldFull { octets },
+        Err(Stop::WriteFault) => Status::WriteFault,
+        Err(Stop::NoMemory) => Status::NoMemory,
     }
 }
 
@@ -85,17 +83,25 @@ fn write_line<K: Sink>(alloc: Global, summary: Summary, sink: &mut K) -> Status
     }
 }
 
-/// Runs the scenario of a seed, and sums up what it comes to.
-fn sum_up(alloc: Global, seed: u64, scenario: &Scenario) -> Result<Summary, WorldRefusal>
-    ensures { SumOf seed scenario.now result }
+/// Runs the scenario of a seed, and sums up what it comes to. Nothing is written.
+fn sum_up<K: Sink>(
+    alloc: Global,
+    seed: u64,
+    scenario: &Scenario,
+    sink: &mut K,
+) -> Result<Summary, Stop>
+    ensures later { K.faults sink.old ≤ K.faults sink.new }
+    ensures sums { SumOf seed scenario.now result }
+    ensures same { K.written sink.new ≡ K.written sink.old }
+    ensures failed { result ≡ Err Stop.WriteFault → Rose (K.faults sink.old) (K.faults sink.new) }
 {
     // Its clause: the ticks of a scenario are few, so that a clock has room for them.
     scenario.is_fit();
     let Ok(mut world) = World::new(alloc, scenario) else {
-        return Err(WorldRefusal::NoMemory);
+        return Err(Stop::NoMemory);
     };
     let mut counts = Counts::none();
-    count_events(alloc, scenario, &mut world, &mut counts)?;
+    play_events(alloc, scenario, &mut world, &mut counts, sink)?;
     Ok(Summary {
         seed,
         events: scenario.events().len() as u64,
@@ -105,75 +111,22 @@ fn sum_up(alloc: Global, seed: u64, scenario: &Scenario) -> Result<Summary, Worl
     })
 }
 
-/// Makes the moves of all events and counts their lines.
-fn count_events(
-    alloc: Global,
-    scenario: &Scenario,
-    world: &mut World,
-    counts: &mut Counts,
-) -> Result<(), WorldRefusal>
-    requires { HasTime world.old (moves_of_plan scenario.now) }
-    ensures { (model : network.LabelledNetwork) → Stands world.old model
-        → CountOf scenario.now model (moves_of_plan scenario.now) world.new counts.old counts.new result }
-{
-    for (place, event) in scenario.events().iter().enumerate() {
-        count_event(alloc, scenario, place, event, world, counts)?;
-    }
-    Ok(())
-}
+/// The lines of moves are counted by their kinds.
+impl Player for Counts {
+    ghost played = { λ counts. Tallies counts };
 
-/// Makes the moves of the event at a place and counts their lines.
-fn count_event(
-    alloc: Global,
-    scenario: &Scenario,
-    place: usize,
-    event: &Event,
-    world: &mut World,
-    counts: &mut Counts,
-) -> Result<(), WorldRefusal>
-    requires { HasTime world.old (moves_of place event.now) }
-    ensures { (model : network.LabelledNetwork) → Stands world.old model
-        → CountOf scenario.now model (moves_of place event.now) world.new counts.old counts.new result }
-{
-    let (mv, times) = event.moves(place);
-    count_times(alloc, scenario, &mv, times, world, counts)
-}
-
-/// Makes one move so many times and counts the lines.
-fn count_times(
-    alloc: Global,
-    scenario: &Scenario,
-    mv: &Move,
-    times: u32,
-    world: &mut World,
-    counts: &mut Counts,
-) -> Result<(), WorldRefusal>
-    requires { HasTime world.old (replicate times mv.now) }
-    ensures { (model : network.LabelledNetwork) → Stands world.old model
-        → CountOf scenario.now model (replicate times mv.now) world.new counts.old counts.new result }
-{
-    for _made in 0..times {
-        let settled = world.is_settled();
-        count_move(alloc, scenario, mv, world, counts)?;
-        // To settle a copy where none is left changes nothing, however often.
-        if settled && matches!(mv, Move::SettleOne) {
-            return Ok(());
+    fn play_move<K: Sink>(
+        &mut self,
+        alloc: Global,
+        scenario: &Scenario,
+        mv: &Move,
+        world: &mut World,
+        _sink: &mut K,
+    ) -> Result<(), Stop> {
+        match world.count_step(alloc, scenario, mv, self) {
+            Ok(()) => Ok(()),
+            Err(WorldRefusal::WorldFull { octets }) => Err(Stop::WorldFull { octets }),
+            Err(WorldRefusal::NoMemory) => Err(Stop::NoMemory),
         }
     }
-    Ok(())
-}
-
-/// Makes one move and counts its lines.
-fn count_move(
-    alloc: Global,
-    scenario: &Scenario,
-    mv: &Move,
-    world: &mut World,
-    counts: &mut Counts,
-) -> Result<(), WorldRefusal>
-    requires { HasTime world.old (mv.now ∷ []) }
-    ensures { (model : network.LabelledNetwork) → Stands world.old model
-        → CountOf scenario.now model (mv.now ∷ []) world.new counts.old counts.new result }
-{
-    world.count_step(alloc, scenario, mv, counts)
 }

@@ -1,7 +1,7 @@
 use Rattle.std.proofs.Common.{[], ◌∷◌}
 use Rattle.clnp_machine.specs.ClnpBase.declared.streams.Failed.{Failed}
 use Rattle.clnp_commands.proofs.Playing.{block_written, cut_short, full_before, made_one, refused_memory}
-use Rattle.clnp_commands.proofs.sim.play_move.Goals as goal
+use Rattle.clnp_commands.proofs.sim.write_move.Goals as goal
 
 pub returns-in-Ok-flush_full-clause-comes_to : goal.returns-in-Ok-flush_full-clause-comes_to
 returns-in-Ok-flush_full-clause-comes_to g c = λ model past before u.
