@@ -2,6 +2,7 @@ pub mod Apart
 pub mod AsBefore
 pub mod Closing
 pub mod Counted
+pub mod Counting
 pub mod Covered
 pub mod Due
 pub mod Ended

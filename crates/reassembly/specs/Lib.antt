@@ -1,6 +1,7 @@
 pub mod Arrival
 pub mod Buffer
 pub mod Claims
+pub mod Counts
 pub mod Ending
 pub mod Entries
 pub mod Index

@@ -2,6 +2,7 @@
 //! (ISO/IEC 8473, sections 6.8 and 6.9).
 #![tactic(auto)]
 
+mod counts;
 pub mod laws;
 mod openings;
 mod page;

@@ -6,6 +6,7 @@ ghost use Rattle.reassembly.specs.declared.runs.Run.{Run};
 ghost use Rattle.reassembly.specs.Pages.{AreCut, ends_behind, on_pages};
 ghost use Rattle.reassembly.specs.Runs.{AreInOrder, cut, filled, is_gap, marked, renamed, total_runs, unfilled};
 
+use crate::counts::Counts;
 use crate::page::{PAGE, Page, has_gap as has_gap_in};
 use nsap::clnp_base::NoMemory;
 use std::alloc::Global;
@@ -28,7 +29,7 @@ pub(crate) struct Run {
 #[derive(Drop)]
 pub(crate) struct Runs {
     /// How many pages each unit has.
-    counts: Vec<usize>,
+    counts: Counts,
     pages: Vec<Page>,
     /// Pages that no unit has.
     spare: Vec<Page>,
@@ -46,7 +47,7 @@ impl Model for Runs {
     ghost view = { λ r. record { groups = map on_pages (groups_of r.counts.items r.pages.items); slots = r.slots; room = r.room } };
 
     ghost invariant = { λ r. ArePages r.counts.items r.pages.items r.spare.items r.slots r.room (min (vec_capacity r.pages) (vec_capacity r.spare))
-        × (r.slots ≤ vec_capacity r.counts) };
+        × (r.slots ≤ r.counts.room) };
 }
 
 impl Runs {
@@ -61,9 +62,7 @@ impl Runs {
     {
         // Each page of a unit that has more than one is at least half full.
         let most = slots + room / (PAGE / 2) + 2;
-        let Ok(counts) = Vec::with_capacity(alloc, slots) else {
-            return Err(NoMemory);
-        };
+        let counts = Counts::new(alloc, slots)?;
         let Ok(pages) = Vec::with_capacity(alloc, most) else {
             return Err(NoMemory);
         };
@@ -89,9 +88,7 @@ impl Runs {
             unreachable!()
         };
         page.open(places);
-        let Ok(()) = self.counts.push(1) else {
-            unreachable!()
-        };
+        self.counts.push(self.pages.len(), 1);
         let Ok(()) = self.pages.push(page) else {
             unreachable!()
         };
@@ -102,10 +99,10 @@ impl Runs {
         requires { slot < length self.now.groups }
         ensures { slice_get self.now.groups slot ≡ Some result }
     {
-        let start = start_of(&self.counts, slot);
+        let start = self.counts.start_at(slot);
         Group {
             first: &[],
-            others: &self.pages[start..start + self.counts[slot]],
+            others: &self.pages[start..start + self.counts.count_at(slot)],
         }
     }
 
@@ -134,15 +131,15 @@ impl Runs {
         ensures slots { self.old.slots ≤ self.new.slots }
         ensures room { self.old.room ≤ self.new.room }
     {
-        let start = start_of(&self.counts, slot);
+        let start = self.counts.start_at(slot);
         let count = cut_pages(
             &mut self.pages,
             &mut self.spare,
             start,
-            self.counts[slot],
+            self.counts.count_at(slot),
             place,
         );
-        self.counts[slot] = count;
+        self.counts.set(slot, count);
     }
 
     /// Makes the holes of a unit that lie from a place to the place before another pieces of a segment.
@@ -154,8 +151,8 @@ impl Runs {
         ensures slots { self.old.slots ≤ self.new.slots }
         ensures room { self.old.room ≤ self.new.room }
     {
-        let start = start_of(&self.counts, slot);
-        let end = start + self.counts[slot];
+        let start = self.counts.start_at(slot);
+        let end = start + self.counts.count_at(slot);
         mark_pages(&mut self.pages[start..end], from, to, by);
     }
 
@@ -166,7 +163,7 @@ impl Runs {
         ensures slots { self.old.slots ≤ self.new.slots }
         ensures room { self.old.room ≤ self.new.room }
     {
-        let start = start_of(&self.counts, slot);
+        let start = self.counts.start_at(slot);
         let count = self.counts.remove(slot);
         take_pages(&mut self.pages, &mut self.spare, start, count);
     }
@@ -266,19 +263,6 @@ pub(crate) fn has_hole(runs: &Group<'_>, from: u16, to: u16, places: u16) -> boo
         return true;
     }
     has_gap(runs, 0, places)
-}
-
-/// How many pages the units before one have.
-fn start_of(counts: &[usize], slot: usize) -> usize
-    requires slot { slot ≤ length counts.now }
-    requires few { sum counts.now < 2 ^ 64 }
-    ensures { result ≡ sum (take slot counts.now) }
-{
-    let mut start = 0;
-    for at in 0..slot {
-        start += counts[at];
-    }
-    start
 }
 
 /// So many pages without runs.

@@ -12,7 +12,7 @@ invariant_of-self c =
           (omega (arith, ap length c.take_pages.ensures.pages, length-drop (0 + c.len-count.result) t.pages.items, c.len-count.ensures)) c.clear.ensures.items
           (omega (arith, c.take_pages.ensures.spare, c.len-count.ensures))
           (omega (arith, c.take_pages.ensures.capacity, c.take_pages.ensures.spare_capacity)),
-      omega (arith, c.self.invariant.1, c.clear.ensures.capacity),
+      omega (arith, c.self.invariant.1, c.clear.ensures.room),
     )
 
 pub returns-clause-groups : goal.returns-clause-groups

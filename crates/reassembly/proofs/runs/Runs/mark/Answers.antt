@@ -1,21 +1,22 @@
 -- The pages of the unit, marked, stand between the others.
-use Rattle.std.proofs.Common.{◌≡◌, ◌+◌, ◌-◌, ◌++◌, List, length, sum, map, take, drop, ap, sym, subst, ◌∙◌, arith}
+use Rattle.std.proofs.Common.{◌≡◌, ◌+◌, ◌-◌, ◌++◌, List, length, map, take, drop, ap, sym, subst, ◌∙◌, arith}
 use Rattle.std.specs.Prelude.{slice_set}
-use Rattle.std.proofs.lemmas.List.{get_or_default, length-map, set-get_or, with_items_is}
+use Rattle.std.proofs.lemmas.Option.{get_or_from_slice_get}
+use Rattle.std.proofs.lemmas.List.{length-map, set-get_or, with_items_is}
 use Rattle.reassembly.specs.declared.runs.Run.{Run}
 use Rattle.reassembly.specs.Pages.{on_pages}
 use Rattle.reassembly.specs.Runs.{AreInOrder, marked}
 use Rattle.reassembly.proofs.Groups.{fits, group_is, group_there, inside, long_group, on_pages-map, pages_changed, replaced, replaced_sum, wanting-map}
 use Rattle.reassembly.proofs.runs.Runs.mark.Goals as goal
 
-pub start_of-start-requires-clause-slot : goal.start_of-start-requires-clause-slot
-start_of-start-requires-clause-slot c =
+pub start_at-start-requires : goal.start_at-start-requires
+start_at-start-requires c =
     let t = c.self.inside in
     let within = inside t.counts.items t.pages.items _ (ap (λ v. v.groups) c.self.view_is) c.self.invariant.0.number c.args.slot c.requires.slot in
-    omega (arith, within, ap length c.deref.ensures.value)
+    omega (arith, within)
 
-pub index-requires : goal.index-requires
-index-requires c =
+pub count_at-requires : goal.count_at-requires
+count_at-requires c =
     let t = c.self.inside in
     let within = inside t.counts.items t.pages.items _ (ap (λ v. v.groups) c.self.view_is) c.self.invariant.0.number c.args.slot c.requires.slot in
     omega (arith, within)
@@ -24,57 +25,57 @@ pub overflow_add-end : goal.overflow_add-end
 overflow_add-end c =
     let t = c.self.inside in
     let within = inside t.counts.items t.pages.items _ (ap (λ v. v.groups) c.self.view_is) c.self.invariant.0.number c.args.slot c.requires.slot in
-    let start = c.start_of-start.ensures ∙ ap (λ l. sum (take c.args.slot l)) c.deref.ensures.value in
-    let count = c.index.ensures ∙ get_or_default t.counts.items c.args.slot c.index.result.now 0 within in
+    let start = c.start_at-start.ensures in
+    let count = sym (get_or_from_slice_get t.counts.items c.args.slot c.count_at.result 0 c.count_at.ensures) in
     omega (arith, fits t.counts.items t.pages.items _ (ap (λ v. v.groups) c.self.view_is) c.self.invariant.0.number c.args.slot c.requires.slot _ _ start count)
 
 pub slice_bounds-mark_pages-end : goal.slice_bounds-mark_pages-end
 slice_bounds-mark_pages-end c =
     let t = c.self.inside in
     let within = inside t.counts.items t.pages.items _ (ap (λ v. v.groups) c.self.view_is) c.self.invariant.0.number c.args.slot c.requires.slot in
-    let start = c.start_of-start.ensures ∙ ap (λ l. sum (take c.args.slot l)) c.deref.ensures.value in
-    let count = c.index.ensures ∙ get_or_default t.counts.items c.args.slot c.index.result.now 0 within in
+    let start = c.start_at-start.ensures in
+    let count = sym (get_or_from_slice_get t.counts.items c.args.slot c.count_at.result 0 c.count_at.ensures) in
     omega (arith, fits t.counts.items t.pages.items _ (ap (λ v. v.groups) c.self.view_is) c.self.invariant.0.number c.args.slot c.requires.slot _ _ start count, ap length c.deref_mut.ensures.value)
 
 pub mark_pages-requires : goal.mark_pages-requires
 mark_pages-requires c =
     let t = c.self.inside in
     let within = inside t.counts.items t.pages.items _ (ap (λ v. v.groups) c.self.view_is) c.self.invariant.0.number c.args.slot c.requires.slot in
-    let start = c.start_of-start.ensures ∙ ap (λ l. sum (take c.args.slot l)) c.deref.ensures.value in
-    let count = c.index.ensures ∙ get_or_default t.counts.items c.args.slot c.index.result.now 0 within in
-    let size : c.start_of-start.result + c.index.result.now - c.start_of-start.result ≡ c.index.result.now = omega arith in
+    let start = c.start_at-start.ensures in
+    let count = sym (get_or_from_slice_get t.counts.items c.args.slot c.count_at.result 0 c.count_at.ensures) in
+    let size : c.start_at-start.result + c.count_at.result - c.start_at-start.result ≡ c.count_at.result = omega arith in
     let there = group_there t.counts.items t.pages.items _ (ap (λ v. v.groups) c.self.view_is) c.self.invariant.0.number c.args.slot c.requires.slot _ _ start count in
-    subst (λ p. AreInOrder (on_pages p)) (sym (ap (λ n. take n (drop c.start_of-start.result c.deref_mut.result.now)) size
-    ∙ ap (λ l. take c.index.result.now (drop c.start_of-start.result l)) c.deref_mut.ensures.value)) (c.requires.order _ there)
+    subst (λ p. AreInOrder (on_pages p)) (sym (ap (λ n. take n (drop c.start_at-start.result c.deref_mut.result.now)) size
+    ∙ ap (λ l. take c.count_at.result (drop c.start_at-start.result l)) c.deref_mut.ensures.value)) (c.requires.order _ there)
 
 pub invariant_of-self : goal.invariant_of-self
 invariant_of-self c =
     let t = c.self.inside in
     let within = inside t.counts.items t.pages.items _ (ap (λ v. v.groups) c.self.view_is) c.self.invariant.0.number c.args.slot c.requires.slot in
-    let start = c.start_of-start.ensures ∙ ap (λ l. sum (take c.args.slot l)) c.deref.ensures.value in
-    let count = c.index.ensures ∙ get_or_default t.counts.items c.args.slot c.index.result.now 0 within in
-    let size : c.start_of-start.result + c.index.result.now - c.start_of-start.result ≡ c.index.result.now = omega arith in
+    let start = c.start_at-start.ensures in
+    let count = sym (get_or_from_slice_get t.counts.items c.args.slot c.count_at.result 0 c.count_at.ensures) in
+    let size : c.start_at-start.result + c.count_at.result - c.start_at-start.result ≡ c.count_at.result = omega arith in
     let given = c.deref_mut.ensures.value in
     let f = marked c.args.from c.args.to c.args.by in
-    let new = map (map f) (take c.index.result.now (drop c.start_of-start.result t.pages.items)) in
+    let new = map (map f) (take c.count_at.result (drop c.start_at-start.result t.pages.items)) in
     let marks : c.mark_pages.new.pages ≡ new = c.mark_pages.ensures
-    ∙ ap (λ n. map (map f) (take n (drop c.start_of-start.result c.deref_mut.result.now))) size
-    ∙ ap (λ l. map (map f) (take c.index.result.now (drop c.start_of-start.result l))) given in
-    let start_at = c.start_of-start.result in
+    ∙ ap (λ n. map (map f) (take n (drop c.start_at-start.result c.deref_mut.result.now))) size
+    ∙ ap (λ l. map (map f) (take c.count_at.result (drop c.start_at-start.result l))) given in
+    let start_at = c.start_at-start.result in
     let given_at : c.deref_mut.result.now ≡ t.pages.items = given in
-    let written : List (List Run) = take start_at c.deref_mut.result.now ++ (c.mark_pages.new.pages ++ drop (start_at + c.index.result.now - start_at) (drop start_at c.deref_mut.result.now)) in
-    let items : written ≡ take start_at t.pages.items ++ (new ++ drop c.index.result.now (drop start_at t.pages.items)) =
-    ap (λ l. take start_at l ++ (c.mark_pages.new.pages ++ drop (start_at + c.index.result.now - start_at) (drop start_at l))) given_at
-    ∙ ap (λ l. take start_at t.pages.items ++ (l ++ drop (start_at + c.index.result.now - start_at) (drop start_at t.pages.items))) marks
+    let written : List (List Run) = take start_at c.deref_mut.result.now ++ (c.mark_pages.new.pages ++ drop (start_at + c.count_at.result - start_at) (drop start_at c.deref_mut.result.now)) in
+    let items : written ≡ take start_at t.pages.items ++ (new ++ drop c.count_at.result (drop start_at t.pages.items)) =
+    ap (λ l. take start_at l ++ (c.mark_pages.new.pages ++ drop (start_at + c.count_at.result - start_at) (drop start_at l))) given_at
+    ∙ ap (λ l. take start_at t.pages.items ++ (l ++ drop (start_at + c.count_at.result - start_at) (drop start_at t.pages.items))) marks
     ∙ ap (λ n. take start_at t.pages.items ++ (new ++ drop n (drop start_at t.pages.items))) size in
-    let long = length-map (take c.index.result.now (drop start_at t.pages.items)) (map f) in
+    let long = length-map (take c.count_at.result (drop start_at t.pages.items)) (map f) in
     let many = long_group t.counts.items t.pages.items _ (ap (λ v. v.groups) c.self.view_is) c.self.invariant.0.number c.args.slot c.requires.slot _ _ start count in
     let counted : t.counts.items ≡ slice_set t.counts.items c.args.slot (length new) =
     sym (ap (slice_set t.counts.items c.args.slot) (long ∙ many) ∙ set-get_or t.counts.items c.args.slot 0) in
     let sum_is = replaced_sum t.counts.items t.pages.items _ (ap (λ v. v.groups) c.self.view_is) c.self.invariant.0.number c.args.slot c.requires.slot _ _ start count new written t.counts.items items counted in
     let is = with_items_is t.pages written (omega (arith, sum_is, c.self.invariant.0.number)) in (
       pages_changed t.counts.items t.pages.items t.spare.items _ _ _ c.self.invariant.0 c.args.slot within _ _ start count new _ _ t.counts.items _
-          (is ∙ items) counted (omega (arith, wanting-map f (take c.index.result.now (drop start_at t.pages.items)))) (omega (arith, long, many, count)) (omega arith),
+          (is ∙ items) counted (omega (arith, wanting-map f (take c.count_at.result (drop start_at t.pages.items)))) (omega (arith, long, many, count)) (omega arith),
       c.self.invariant.1,
     )
 
@@ -82,23 +83,23 @@ pub returns-clause-groups : goal.returns-clause-groups
 returns-clause-groups c runs told =
     let t = c.self.inside in
     let within = inside t.counts.items t.pages.items _ (ap (λ v. v.groups) c.self.view_is) c.self.invariant.0.number c.args.slot c.requires.slot in
-    let start = c.start_of-start.ensures ∙ ap (λ l. sum (take c.args.slot l)) c.deref.ensures.value in
-    let count = c.index.ensures ∙ get_or_default t.counts.items c.args.slot c.index.result.now 0 within in
-    let size : c.start_of-start.result + c.index.result.now - c.start_of-start.result ≡ c.index.result.now = omega arith in
+    let start = c.start_at-start.ensures in
+    let count = sym (get_or_from_slice_get t.counts.items c.args.slot c.count_at.result 0 c.count_at.ensures) in
+    let size : c.start_at-start.result + c.count_at.result - c.start_at-start.result ≡ c.count_at.result = omega arith in
     let given = c.deref_mut.ensures.value in
     let f = marked c.args.from c.args.to c.args.by in
-    let new = map (map f) (take c.index.result.now (drop c.start_of-start.result t.pages.items)) in
+    let new = map (map f) (take c.count_at.result (drop c.start_at-start.result t.pages.items)) in
     let marks : c.mark_pages.new.pages ≡ new = c.mark_pages.ensures
-    ∙ ap (λ n. map (map f) (take n (drop c.start_of-start.result c.deref_mut.result.now))) size
-    ∙ ap (λ l. map (map f) (take c.index.result.now (drop c.start_of-start.result l))) given in
-    let start_at = c.start_of-start.result in
+    ∙ ap (λ n. map (map f) (take n (drop c.start_at-start.result c.deref_mut.result.now))) size
+    ∙ ap (λ l. map (map f) (take c.count_at.result (drop c.start_at-start.result l))) given in
+    let start_at = c.start_at-start.result in
     let given_at : c.deref_mut.result.now ≡ t.pages.items = given in
-    let written : List (List Run) = take start_at c.deref_mut.result.now ++ (c.mark_pages.new.pages ++ drop (start_at + c.index.result.now - start_at) (drop start_at c.deref_mut.result.now)) in
-    let items : written ≡ take start_at t.pages.items ++ (new ++ drop c.index.result.now (drop start_at t.pages.items)) =
-    ap (λ l. take start_at l ++ (c.mark_pages.new.pages ++ drop (start_at + c.index.result.now - start_at) (drop start_at l))) given_at
-    ∙ ap (λ l. take start_at t.pages.items ++ (l ++ drop (start_at + c.index.result.now - start_at) (drop start_at t.pages.items))) marks
+    let written : List (List Run) = take start_at c.deref_mut.result.now ++ (c.mark_pages.new.pages ++ drop (start_at + c.count_at.result - start_at) (drop start_at c.deref_mut.result.now)) in
+    let items : written ≡ take start_at t.pages.items ++ (new ++ drop c.count_at.result (drop start_at t.pages.items)) =
+    ap (λ l. take start_at l ++ (c.mark_pages.new.pages ++ drop (start_at + c.count_at.result - start_at) (drop start_at l))) given_at
+    ∙ ap (λ l. take start_at t.pages.items ++ (l ++ drop (start_at + c.count_at.result - start_at) (drop start_at t.pages.items))) marks
     ∙ ap (λ n. take start_at t.pages.items ++ (new ++ drop n (drop start_at t.pages.items))) size in
-    let long = length-map (take c.index.result.now (drop start_at t.pages.items)) (map f) in
+    let long = length-map (take c.count_at.result (drop start_at t.pages.items)) (map f) in
     let many = long_group t.counts.items t.pages.items _ (ap (λ v. v.groups) c.self.view_is) c.self.invariant.0.number c.args.slot c.requires.slot _ _ start count in
     let counted : t.counts.items ≡ slice_set t.counts.items c.args.slot (length new) =
     sym (ap (slice_set t.counts.items c.args.slot) (long ∙ many) ∙ set-get_or t.counts.items c.args.slot 0) in
@@ -106,4 +107,4 @@ returns-clause-groups c runs told =
     let is = with_items_is t.pages written (omega (arith, sum_is, c.self.invariant.0.number)) in
     let group = group_is t.counts.items t.pages.items _ (ap (λ v. v.groups) c.self.view_is) c.self.invariant.0.number c.args.slot c.requires.slot _ _ start count runs told in
     replaced t.counts.items t.pages.items _ (ap (λ v. v.groups) c.self.view_is) c.self.invariant.0.number c.args.slot c.requires.slot _ _ start count new _ t.counts.items (is ∙ items) counted
-    ∙ ap (slice_set c.args.self.now.groups c.args.slot) (on_pages-map f (take c.index.result.now (drop start_at t.pages.items)) ∙ ap (map f) group)
+    ∙ ap (slice_set c.args.self.now.groups c.args.slot) (on_pages-map f (take c.count_at.result (drop start_at t.pages.items)) ∙ ap (map f) group)

@@ -21,12 +21,11 @@ unreachable-requires c =
       c.in_default.ensures.cases.0,
     )
 
-pub unreachable-requires-in_default-push : goal.unreachable-requires-in_default-push
-unreachable-requires-in_default-push c =
+pub push-requires-clause-room : goal.push-requires-clause-room
+push-requires-clause-room c =
     let t = c.self.inside in
     omega (
       arith,
-      c.in_default-push.ensures.full,
       counted_as t.counts.items t.pages.items _ (ap (λ v. v.groups) c.self.view_is) c.self.invariant.0.number,
       c.requires.slots,
       ap (λ v. v.slots) c.self.view_is,
@@ -38,14 +37,14 @@ invariant_of-self c =
     let t = c.self.inside in (
       pages_opened t.counts.items t.pages.items t.spare.items _ _ _ c.self.invariant.0 c.open.new.self _ _ _ _
           (omega (arith, counted_as t.counts.items t.pages.items _ (ap (λ v. v.groups) c.self.view_is) c.self.invariant.0.number, c.requires.slots, ap (λ v. v.slots) c.self.view_is))
-          c.in-Ok-push.ensures.items c.in-Ok.ensures.items
+          c.in-Ok.ensures.items c.push.ensures.items
           (omega (arith, ap length c.in-Some.ensures.items, length_push c.pop.new.self.items c.in-Some.page))
-          (omega (arith, c.pop.ensures.capacity, c.in-Ok-push.ensures.capacity)),
-      omega (arith, c.self.invariant.1, c.in-Ok.ensures.capacity),
+          (omega (arith, c.pop.ensures.capacity, c.in-Ok.ensures.capacity)),
+      omega (arith, c.self.invariant.1, c.push.ensures.room),
     )
 
 pub returns-clause-groups : goal.returns-clause-groups
 returns-clause-groups c =
     let t = c.self.inside in
     pushed t.counts.items t.pages.items _ (ap (λ v. v.groups) c.self.view_is) c.self.invariant.0.number (unfilled c.args.places) _ _
-    (c.in-Ok-push.ensures.items ∙ ap (λ p. t.pages.items ++ p ∷ []) c.open.ensures) c.in-Ok.ensures.items
+    (c.in-Ok.ensures.items ∙ ap (λ p. t.pages.items ++ p ∷ []) c.open.ensures) c.push.ensures.items

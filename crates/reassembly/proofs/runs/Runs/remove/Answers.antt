@@ -1,17 +1,17 @@
 -- The pages of the unit are taken out between the others.
-use Rattle.std.proofs.Common.{length, sum, take, ap, ◌∙◌, arith}
-use Rattle.std.proofs.lemmas.List.{get_or_default}
+use Rattle.std.proofs.Common.{ap, sym, arith}
+use Rattle.std.proofs.lemmas.Option.{get_or_from_slice_get}
 use Rattle.reassembly.proofs.Groups.{inside, fits, pages_removed, taken}
 use Rattle.reassembly.proofs.runs.Runs.remove.Goals as goal
 
-pub start_of-start-requires-clause-slot : goal.start_of-start-requires-clause-slot
-start_of-start-requires-clause-slot c =
+pub start_at-start-requires : goal.start_at-start-requires
+start_at-start-requires c =
     let t = c.self.inside in
     let within = inside t.counts.items t.pages.items _ (ap (λ v. v.groups) c.self.view_is) c.self.invariant.0.number c.args.slot c.requires in
-    omega (arith, within, ap length c.deref.ensures.value)
+    omega (arith, within)
 
-pub remove-count-requires : goal.remove-count-requires
-remove-count-requires c =
+pub remove-count-requires-clause-unit : goal.remove-count-requires-clause-unit
+remove-count-requires-clause-unit c =
     let t = c.self.inside in
     let within = inside t.counts.items t.pages.items _ (ap (λ v. v.groups) c.self.view_is) c.self.invariant.0.number c.args.slot c.requires in
     omega (arith, within)
@@ -20,26 +20,26 @@ pub take_pages-requires-clause-within : goal.take_pages-requires-clause-within
 take_pages-requires-clause-within c =
     let t = c.self.inside in
     let within = inside t.counts.items t.pages.items _ (ap (λ v. v.groups) c.self.view_is) c.self.invariant.0.number c.args.slot c.requires in
-    let start = c.start_of-start.ensures ∙ ap (λ l. sum (take c.args.slot l)) c.deref.ensures.value in
-    let count = c.remove-count.ensures.value ∙ get_or_default t.counts.items c.args.slot c.remove-count.result 0 within in
+    let start = c.start_at-start.ensures in
+    let count = sym (get_or_from_slice_get t.counts.items c.args.slot c.remove-count.result 0 c.remove-count.ensures.count) in
     omega (arith, fits t.counts.items t.pages.items _ (ap (λ v. v.groups) c.self.view_is) c.self.invariant.0.number c.args.slot c.requires _ _ start count)
 
 pub invariant_of-self : goal.invariant_of-self
 invariant_of-self c =
     let t = c.self.inside in
     let within = inside t.counts.items t.pages.items _ (ap (λ v. v.groups) c.self.view_is) c.self.invariant.0.number c.args.slot c.requires in
-    let start = c.start_of-start.ensures ∙ ap (λ l. sum (take c.args.slot l)) c.deref.ensures.value in
-    let count = c.remove-count.ensures.value ∙ get_or_default t.counts.items c.args.slot c.remove-count.result 0 within in (
+    let start = c.start_at-start.ensures in
+    let count = sym (get_or_from_slice_get t.counts.items c.args.slot c.remove-count.result 0 c.remove-count.ensures.count) in (
       pages_removed t.counts.items t.pages.items t.spare.items _ _ _ c.self.invariant.0 c.args.slot within _ _ start count _ _ _ _
           c.take_pages.ensures.pages c.remove-count.ensures.items c.take_pages.ensures.spare
           (omega (arith, c.take_pages.ensures.capacity, c.take_pages.ensures.spare_capacity)),
-      omega (arith, c.self.invariant.1, c.remove-count.ensures.capacity),
+      omega (arith, c.self.invariant.1, c.remove-count.ensures.room),
     )
 
 pub returns-clause-groups : goal.returns-clause-groups
 returns-clause-groups c =
     let t = c.self.inside in
     let within = inside t.counts.items t.pages.items _ (ap (λ v. v.groups) c.self.view_is) c.self.invariant.0.number c.args.slot c.requires in
-    let start = c.start_of-start.ensures ∙ ap (λ l. sum (take c.args.slot l)) c.deref.ensures.value in
-    let count = c.remove-count.ensures.value ∙ get_or_default t.counts.items c.args.slot c.remove-count.result 0 within in
+    let start = c.start_at-start.ensures in
+    let count = sym (get_or_from_slice_get t.counts.items c.args.slot c.remove-count.result 0 c.remove-count.ensures.count) in
     taken t.counts.items t.pages.items _ (ap (λ v. v.groups) c.self.view_is) c.self.invariant.0.number c.args.slot c.requires _ _ start count _ _ c.take_pages.ensures.pages c.remove-count.ensures.items
