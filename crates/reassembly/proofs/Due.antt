@@ -2,11 +2,12 @@
 use Rattle.std.proofs.Common.{◌≡◌, ◌∙◌, sym, ap, subst, refl, ℕ, zero, suc, ◌+◌, ◌≤◌, ◌<◌, inl, inr, Bool, true, false, List, [], ◌∷◌, length, take, get_or, arith, Option, Some, None, IfNone, IfSome, MatchOption}
 use Rattle.std.specs.Prelude.{filter, nat_le, nat_lt, slice_get}
 use Rattle.std.specs.List.{All, AllByRecursion}
-use Rattle.std.proofs.lemmas.Bool.{cases_Bool, le-leb, leb-false, leb-true, lt-leb, ltb-false, ltb-true}
+use Rattle.std.proofs.lemmas.Bool.{cases_Bool, false≢true, le-leb, lt-leb, ltb-false, ltb-true}
 use Rattle.std.proofs.lemmas.List.{take_all}
-use Rattle.std.proofs.lemmas.List.Elements.{All-more, All-weaker}
+use Rattle.std.proofs.lemmas.List.Elements.{All-more, All-nil, All-weaker}
 use Rattle.std.proofs.lemmas.Option.{none-some, same_Some, slice_get_read}
 use Rattle.reassembly.specs.declared.openings.Opening.{Opening}
+use Rattle.reassembly.specs.Openings.{IsSoonest}
 use Rattle.reassembly.specs.Buffer.{Buffer, due, sooner, soonest}
 use Rattle.nsap.proofs.ClnpBase.Filters.{AllByRecursion-filter}
 
@@ -52,42 +53,40 @@ module _ {C : Type 0} where
       ]
 
 -- the opening found so far, among the first `n`
-abbrev pub IsFoundAt : ℕ → List Opening → ℕ → ℕ → Type 0
-IsFoundAt now openings n slot =
-    (slot < n) × ((opening : Opening) × (slice_get openings slot ≡ Some opening) × (opening.deadline ≤ now)
+abbrev pub IsFoundAt : List Opening → ℕ → ℕ → Type 0
+IsFoundAt openings n slot =
+    (slot < n) × ((opening : Opening) × (slice_get openings slot ≡ Some opening)
     × All (λ other. opening.deadline ≤ other.deadline) (take n openings) × All (λ other. opening.deadline < other.deadline) (take slot openings))
 
-abbrev pub IsFound : ℕ → List Opening → ℕ → Option ℕ → Type 0
-IsFound now openings n found =
-    MatchOption found (All (λ opening. now < opening.deadline) (take n openings)) (IsFoundAt now openings n)
+abbrev pub IsFound : List Opening → ℕ → Option ℕ → Type 0
+IsFound openings n found = MatchOption found (n ≡ 0) (IsFoundAt openings n)
 
 -- what is known of a deadline beside that of the opening found so far
-abbrev pub IsSooner : ℕ → List Opening → Option ℕ → ℕ → Bool → Type 0
-IsSooner now openings found deadline answer =
-    MatchOption found (answer ≡ nat_le deadline now) (λ slot. (opening : Opening) → slice_get openings slot ≡ Some opening → answer ≡ nat_lt deadline opening.deadline)
+abbrev pub IsSooner : List Opening → Option ℕ → ℕ → Bool → Type 0
+IsSooner openings found deadline answer =
+    MatchOption found (answer ≡ true) (λ slot. (opening : Opening) → slice_get openings slot ≡ Some opening → answer ≡ nat_lt deadline opening.deadline)
 
-module _ (now : ℕ) (openings : List Opening) (n : ℕ) (next : Opening) (within : n < length openings) (read : next ≡ get_or openings n next) where
+module _ (openings : List Opening) (n : ℕ) (next : Opening) (within : n < length openings) (read : next ≡ get_or openings n next) where
   one_more : (P : Opening → Type 0) → All P (take n openings) → P next → All P (take (n + 1) openings)
   one_more P h at = All-more P openings n next within h (subst P read at)
 
   -- the next opening isn't sooner
-  pub found_stays : (found : Option ℕ) → IsSooner now openings found next.deadline false → IsFound now openings n found → IsFound now openings (n + 1) found
-  found_stays None sooner h = one_more (λ o. now < o.deadline) h (leb-false next.deadline now (sym sooner))
+  pub found_stays : (found : Option ℕ) → IsSooner openings found next.deadline false → IsFound openings n found → IsFound openings (n + 1) found
+  found_stays None sooner h = absurd (false≢true sooner)
   found_stays (Some slot) sooner h =
       let above = ltb-false next.deadline h.1.0.deadline (sym (sooner h.1.0 h.1.1)) in
-      (omega (arith, h.0), (h.1.0, h.1.1, h.1.2, one_more (λ o. h.1.0.deadline ≤ o.deadline) h.1.3 above, h.1.4))
+      (omega (arith, h.0), (h.1.0, h.1.1, one_more (λ o. h.1.0.deadline ≤ o.deadline) h.1.2 above, h.1.3))
 
   -- it is sooner
-  pub found_next : (found : Option ℕ) → IsSooner now openings found next.deadline true → IsFound now openings n found → IsFoundAt now openings (n + 1) n
+  pub found_next : (found : Option ℕ) → IsSooner openings found next.deadline true → IsFound openings n found → IsFoundAt openings (n + 1) n
   found_next None sooner h =
-      let due : next.deadline ≤ now = leb-true next.deadline now (sym sooner) in (
+      let none : take n openings ≡ [] = ap (λ k. take k openings) h in (
         omega arith,
         (
           next,
           slice_get_read openings (length openings) n next refl within read,
-          due,
-          one_more (λ o. next.deadline ≤ o.deadline) (All-weaker (λ o. now < o.deadline) (λ o. next.deadline ≤ o.deadline) (λ o k. omega arith) (take n openings) h) (omega arith),
-          All-weaker (λ o. now < o.deadline) (λ o. next.deadline < o.deadline) (λ o k. omega arith) (take n openings) h,
+          one_more (λ o. next.deadline ≤ o.deadline) (subst (All (λ o. next.deadline ≤ o.deadline)) (sym none) (All-nil (λ o. next.deadline ≤ o.deadline))) (omega arith),
+          subst (All (λ o. next.deadline < o.deadline)) (sym none) (All-nil (λ o. next.deadline < o.deadline)),
         ),
       )
   found_next (Some slot) sooner h =
@@ -96,21 +95,21 @@ module _ (now : ℕ) (openings : List Opening) (n : ℕ) (next : Opening) (withi
         (
           next,
           slice_get_read openings (length openings) n next refl within read,
-          omega (arith, h.1.2),
-          one_more (λ o. next.deadline ≤ o.deadline) (All-weaker (λ o. h.1.0.deadline ≤ o.deadline) (λ o. next.deadline ≤ o.deadline) (λ o k. omega arith) (take n openings) h.1.3) (omega arith),
-          All-weaker (λ o. h.1.0.deadline ≤ o.deadline) (λ o. next.deadline < o.deadline) (λ o k. omega arith) (take n openings) h.1.3,
+          one_more (λ o. next.deadline ≤ o.deadline) (All-weaker (λ o. h.1.0.deadline ≤ o.deadline) (λ o. next.deadline ≤ o.deadline) (λ o k. omega arith) (take n openings) h.1.2) (omega arith),
+          All-weaker (λ o. h.1.0.deadline ≤ o.deadline) (λ o. next.deadline < o.deadline) (λ o k. omega arith) (take n openings) h.1.2,
         ),
       )
 
 -- what is found among all openings
-pub found_none : (now : ℕ) (openings : List Opening) (n : ℕ) (found : Option ℕ) → length openings ≤ n → IsFound now openings n found
-    → IfNone found (All (λ opening. now < opening.deadline) openings)
-found_none now openings n None all h = subst (All (λ o. now < o.deadline)) (take_all n openings all) h
-found_none now openings n (Some slot) all h = tt
+nothing_of : (openings : List Opening) → length openings ≤ 0 → openings ≡ []
+nothing_of [] all = refl
+nothing_of (first ∷ others) all = absurd (omega arith)
 
-pub found_some : (now : ℕ) (openings : List Opening) (n : ℕ) (found : Option ℕ) → length openings ≤ n → IsFound now openings n found
-    → IfSome found (λ slot. (opening : Opening) × (slice_get openings slot ≡ Some opening) × (opening.deadline ≤ now)
-    × All (λ other. opening.deadline ≤ other.deadline) openings × All (λ other. opening.deadline < other.deadline) (take slot openings))
-found_some now openings n None all h = tt
-found_some now openings n (Some slot) all h =
-    (h.1.0, h.1.1, h.1.2, subst (All (λ o. h.1.0.deadline ≤ o.deadline)) (take_all n openings all) h.1.3, h.1.4)
+pub found_none : (openings : List Opening) (n : ℕ) (found : Option ℕ) → length openings ≤ n → IsFound openings n found → IfNone found (openings ≡ [])
+found_none openings n None all h = nothing_of openings (omega (arith, all, h))
+found_none openings n (Some slot) all h = tt
+
+pub found_some : (openings : List Opening) (n : ℕ) (found : Option ℕ) → length openings ≤ n → IsFound openings n found → IfSome found (IsSoonest openings)
+found_some openings n None all h = tt
+found_some openings n (Some slot) all h =
+    (h.1.0, h.1.1, subst (All (λ o. h.1.0.deadline ≤ o.deadline)) (take_all n openings all) h.1.2, h.1.3)

@@ -7,7 +7,7 @@ use Rattle.std.proofs.lemmas.Option.{none-some, same_Some}
 use Rattle.reassembly.specs.declared.segment.Key.{Key}
 use Rattle.reassembly.specs.declared.openings.Opening.{Opening}
 use Rattle.reassembly.specs.Arrival.{same_key}
-use Rattle.reassembly.specs.Openings.{AreApart, is_of}
+use Rattle.reassembly.specs.Openings.{AreApart, ends_at, is_of}
 use Rattle.nsap.proofs.ClnpBase.Choices.{equal_is}
 use Rattle.nsap.proofs.ClnpBase.Lists.{AllByRecursion-both, AllByRecursion-implies, AllByRecursion-push, AllByRecursion-slice_get}
 
@@ -26,6 +26,12 @@ first_place (first ∷ others) n (suc place) slot apart e =
     rw (ne_eqb first slot (λ same. differs (sym same)))
     (first_place others (n + 1) place slot apart.1 e ∙ ap (λ (k : ℕ). Some k) counted)
 
+-- no other place has what stands at a place
+pub same_place : (slots : List ℕ) (slot place other : ℕ) → AreApart slots → slice_get slots place ≡ Some slot → slice_get slots other ≡ Some slot → place ≡ other
+same_place slots slot place other apart here there =
+    let same = same_Some (0 + place) (0 + other) (sym (first_place slots 0 place slot apart here) ∙ first_place slots 0 other slot apart there) in
+    omega (arith, same)
+
 pub AreApart-push : (slots : List ℕ) (slot : ℕ) → AreApart slots → AllByRecursion (λ other. other ≢ slot) slots → AreApart (slots ++ slot ∷ [])
 AreApart-push [] slot apart differ = (tt, tt)
 AreApart-push (first ∷ others) slot apart differ = (
@@ -33,7 +39,7 @@ AreApart-push (first ∷ others) slot apart differ = (
   AreApart-push others slot apart.1 differ.1,
 )
 
-AllByRecursion-remove : {X : Type 0} (P : X → Type 0) (xs : List X) (i : ℕ) → i < length xs → AllByRecursion P xs → AllByRecursion P (remove xs i)
+pub AllByRecursion-remove : {X : Type 0} (P : X → Type 0) (xs : List X) (i : ℕ) → i < length xs → AllByRecursion P xs → AllByRecursion P (remove xs i)
 AllByRecursion-remove P [] i within all = absurd (omega arith)
 AllByRecursion-remove P (x ∷ xs) zero within all = all.1
 AllByRecursion-remove P (x ∷ xs) (suc i) within all = (all.0, AllByRecursion-remove P xs i (omega arith) all.1)
@@ -71,6 +77,13 @@ module _ {X : Type 0} (old : ℕ → Option X) where
   list_at (first ∷ others) (suc place) slot taken e =
       let there = value_there (old first) taken.0 in
       rw there.1 (list_at others place slot taken.1 e)
+
+  pub nothing_at : (slots : List ℕ) (place : ℕ) → AllTaken slots → slice_get slots place ≡ None → slice_get (filter_map old slots) place ≡ None
+  nothing_at [] place taken e = refl
+  nothing_at (first ∷ others) zero taken e = absurd (cc)
+  nothing_at (first ∷ others) (suc place) taken e =
+      let there = value_there (old first) taken.0 in
+      rw there.1 (nothing_at others place taken.1 e)
 
   pub length-list : (slots : List ℕ) → AllTaken slots → length (filter_map old slots) ≡ length slots
   length-list [] taken = refl
@@ -144,3 +157,11 @@ place-list old key n [] taken = refl
 place-list old key n (first ∷ others) taken =
     let there = value_there (old first) taken.0 in
     rw there.1 (ap (λ (o : Option ℕ). cond (same_key there.0.key key) (Some n) o) (place-list old key (n + 1) others taken.1))
+
+-- the first place of an opening whose time ends at a moment is that of its slot
+pub place-ending : (old : ℕ → Option Opening) (moment n : ℕ) (slots : List ℕ) → AllTaken old slots
+    → position_from (λ slot. ends_at moment (old slot)) n slots ≡ position_from (λ opening. opening.deadline == moment) n (filter_map old slots)
+place-ending old moment n [] taken = refl
+place-ending old moment n (first ∷ others) taken =
+    let there = value_there (old first) taken.0 in
+    rw there.1 (ap (λ (o : Option ℕ). cond (there.0.deadline == moment) (Some n) o) (place-ending old moment (n + 1) others taken.1))

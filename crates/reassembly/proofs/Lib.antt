@@ -26,6 +26,7 @@ pub mod LawOrder
 pub mod LawSums
 pub mod LawTimes
 pub mod Mapped
+pub mod Marking
 pub mod NoWhole
 pub mod Opened
 pub mod Paged
@@ -36,6 +37,7 @@ pub mod Run
 pub mod SameKey
 pub mod Shared
 pub mod Slots
+pub mod Soonest
 pub mod Standing
 pub mod Staying
 pub mod Undoing

@@ -7,6 +7,7 @@ pub mod Entries
 pub mod Index
 pub mod Kept
 pub mod Mapped
+pub mod Marks
 pub mod NoWhole
 pub mod Offered
 pub mod Openings

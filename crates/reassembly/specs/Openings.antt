@@ -1,6 +1,6 @@
 -- Openings, each in a slot of its own.
-use Rattle.std.specs.Prelude.{◌≡◌, ◌≢◌, ℕ, Bool, false, List, [], ◌∷◌, length, Option, None, Some}
-use Rattle.std.specs.List.{AllByRecursion, filter_map, remove}
+use Rattle.std.specs.Prelude.{◌≡◌, ◌≢◌, ◌==◌, ◌<◌, ◌≤◌, ℕ, Bool, false, List, [], ◌∷◌, length, take, Option, None, Some, slice_get}
+use Rattle.std.specs.List.{All, AllByRecursion, filter_map, remove}
 use Rattle.slab.specs.Slab.{ContainsKey, Slab, get, slab_len}
 use Rattle.reassembly.specs.declared.segment.Key.{Key}
 use Rattle.reassembly.specs.declared.openings.Opening.{Opening}
@@ -36,3 +36,14 @@ is_of key (Some opening) = same_key opening.key key
 pub record AreWithout (place : ℕ) (before after : OpeningsState) : Type 0 where
   pub list : after.list ≡ remove before.list place
   pub slots : after.slots ≡ remove before.slots place
+
+-- whether what stands in a slot is an opening whose time ends at a moment
+abbrev pub ends_at : ℕ → Option Opening → Bool
+ends_at moment None = false
+ends_at moment (Some opening) = opening.deadline == moment
+
+-- the opening at a place is the one with the earliest deadline, the first of equals
+abbrev pub IsSoonest : List Opening → ℕ → Type 0
+IsSoonest openings place =
+    (opening : Opening) × (slice_get openings place ≡ Some opening) × All (λ other. (opening.deadline ≤ other.deadline)) openings
+    × All (λ other. opening.deadline < other.deadline) (take place openings)

@@ -4,6 +4,7 @@
 
 mod counts;
 pub mod laws;
+mod marks;
 mod openings;
 mod page;
 mod pieces;

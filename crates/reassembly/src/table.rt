@@ -113,7 +113,7 @@ impl Table {
         ensures none_whole { IfOk result HasNoWhole }
         ensures limits { IfOk result (λ table. table.limits ≡ limits) }
     {
-        let openings = Openings::new(alloc, usize::from(limits.slots))?;
+        let openings = Openings::new(alloc, limits.slots)?;
         // An index of an entry has 16 bits.
         let entries = (2 * usize::from(limits.segments)).min(65_535);
         let segments = Segments::new(alloc, entries)?;

@@ -1,5 +1,5 @@
 //! Buffers taken out of the table, whole or because their time has ended.
-ghost use Rattle.std.specs.Prelude.{◌≡◌, ◌≢◌, ◌+◌, ◌*◌, ◌≤◌, ◌<◌, ℕ, List, Option, [], ◌∷◌, ◌++◌, length, nat_le, nat_lt, take, None, Some, IfNone, IfSome, MatchOption, option_map, slice_get};
+ghost use Rattle.std.specs.Prelude.{◌≡◌, ◌≢◌, ◌+◌, ◌*◌, ◌≤◌, ◌<◌, ℕ, List, Option, [], ◌∷◌, ◌++◌, length, nat_lt, take, true, None, Some, IfNone, IfSome, MatchOption, option_map, slice_get};
 ghost use Rattle.std.specs.List.{All, AllByRecursion};
 ghost use Rattle.clnp_views.specs.Extent.{Extent};
 ghost use Rattle.reassembly.specs.declared.openings.Opening.{Opening};
@@ -11,7 +11,7 @@ ghost use Rattle.reassembly.specs.Entries.{IsWithin, present, segment_by};
 ghost use Rattle.reassembly.specs.Index.{IsIndexOf, IsNext, MayBeIndexed, emptied_by};
 ghost use Rattle.reassembly.specs.Kept.{IsKept};
 ghost use Rattle.reassembly.specs.NoWhole.{HasNoWhole, IsCompleted};
-ghost use Rattle.reassembly.specs.Openings.{AreWithout};
+ghost use Rattle.reassembly.specs.Openings.{AreWithout, IsSoonest};
 ghost use Rattle.reassembly.specs.Runs.{AreInOrder, first_by, total_runs};
 ghost use Rattle.reassembly.specs.State.{IsAt, IsReady, IsWholeSlot, Names, SlotsStay, Stands, TableState, segments_of};
 
@@ -69,7 +69,7 @@ impl Table {
         ensures slots { SlotsStay self.old self.new }
         ensures limits { self.new.limits ≡ self.old.limits }
     {
-        let place = due_place(&self.openings, now)?;
+        let place = due_place(&mut self.openings, now)?;
         let key = self.openings.at(place).key;
         let first = self.take_out(place);
         Some(Expired { key, first })
@@ -174,6 +174,7 @@ fn fill_all(runs: &mut Runs, openings: &Openings, entries: &[Option<Segment>])
 
 /// Fills the places of the segment in an entry, if it has one.
 fn fill_entry(runs: &mut Runs, openings: &Openings, entry: &Option<Segment>, by: u16)
+    requires distinct { AllByRecursion (λ opening. openings_of opening.key openings.now.list ≡ 1) openings.now.list }
     requires owned { IfSome entry.now (λ segment. openings_of segment.key openings.now.list ≡ 1) }
     requires came { IfSome entry.now MayCome }
     requires number { length runs.old.groups ≡ length openings.now.list }
@@ -205,32 +206,49 @@ fn close_empty(openings: &mut Openings, place: usize, entries: &[Option<Segment>
     }
 }
 
-/// The place of the opening with the earliest deadline that isn't above a moment, the first of equals.
-fn due_place(openings: &Openings, now: u64) -> Option<usize>
-    ensures none { IfNone result (All (λ opening. now < opening.deadline) openings.now.list) }
-    ensures due { IfSome result (λ place. (opening : Opening) × (slice_get openings.now.list place ≡ Some opening)
-        × (opening.deadline ≤ now) × All (λ other. (opening.deadline ≤ other.deadline)) openings.now.list
-        × All (λ other. opening.deadline < other.deadline) (take place openings.now.list)) }
+/// The place of the opening with the earliest deadline, if that isn't above a moment, the first of equals.
+fn due_place(openings: &mut Openings, now: u64) -> Option<usize>
+    ensures none { IfNone result (All (λ opening. now < opening.deadline) openings.old.list) }
+    ensures due { IfSome result (λ place. (opening : Opening) × (slice_get openings.old.list place ≡ Some opening)
+        × (opening.deadline ≤ now) × All (λ other. (opening.deadline ≤ other.deadline)) openings.old.list
+        × All (λ other. opening.deadline < other.deadline) (take place openings.old.list)) }
+    ensures same { openings.new ≡ openings.old }
 {
+    if openings.is_quiet(now) {
+        return None;
+    }
+    let place = soonest_place(openings)?;
+    let deadline = openings.at(place).deadline;
+    openings.set_quiet_until(deadline);
+    if deadline <= now { Some(place) } else { None }
+}
+
+/// The place of the opening with the earliest deadline, the first of equals.
+fn soonest_place(openings: &Openings) -> Option<usize>
+    ensures none { IfNone result (openings.now.list ≡ []) }
+    ensures soonest { IfSome result (IsSoonest openings.now.list) }
+{
+    if let Some(place) = openings.first_to_end() {
+        return Some(place);
+    }
     let mut found = None;
     for place in 0..openings.len() {
         let deadline = openings.at(place).deadline;
-        if is_sooner(openings, found, deadline, now) {
+        if is_sooner(openings, found, deadline) {
             found = Some(place);
         }
     }
     found
 }
 
-/// Whether a deadline is earlier than that of the opening found so far; where none is found, whether it isn't above a
-/// moment.
-fn is_sooner(openings: &Openings, found: Option<usize>, deadline: u64, now: u64) -> bool
+/// Whether a deadline is earlier than that of the opening found so far, if one is found.
+fn is_sooner(openings: &Openings, found: Option<usize>, deadline: u64) -> bool
     requires { IfSome found (λ place. place < length openings.now.list) }
-    ensures { MatchOption found (result ≡ nat_le deadline now) (λ place. (opening : Opening) → slice_get openings.now.list place ≡ Some opening
+    ensures { MatchOption found (result ≡ true) (λ place. (opening : Opening) → slice_get openings.now.list place ≡ Some opening
         → result ≡ nat_lt deadline opening.deadline) }
 {
     match found {
         Some(place) => deadline < openings.at(place).deadline,
-        None => deadline <= now,
+        None => true,
     }
 }

@@ -6,7 +6,7 @@ use Rattle.reassembly.proofs.openings.Openings.len.Goals as goal
 pub returns-clause-openings : goal.returns-clause-openings
 returns-clause-openings c =
     let t = c.self.inside in
-    omega (arith, length-list (get t.buffers) t.order.items c.self.invariant.taken, ap (λ v. length v.list) c.self.view_is)
+    omega (arith, length-list (get t.buffers) t.order.items c.self.invariant.0.taken, ap (λ v. length v.list) c.self.view_is)
 
 pub returns-clause-slots : goal.returns-clause-slots
 returns-clause-slots c = omega (arith, ap (λ v. length v.slots) c.self.view_is)

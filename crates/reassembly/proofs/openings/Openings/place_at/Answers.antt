@@ -12,11 +12,11 @@ unreachable-requires c =
     let place = c.requires.0 in
     let at = ap (λ v. slice_get v.slots place) c.self.view_is ∙ c.requires.1 in
     none-some (0 + place) (c.in_default.ensures ∙ ap (λ l. position_from (λ other. other == c.args.slot) 0 l) c.deref.ensures.value
-    ∙ first_place t.order.items 0 place c.args.slot c.self.invariant.apart at)
+    ∙ first_place t.order.items 0 place c.args.slot c.self.invariant.0.apart at)
 
 pub returns : goal.returns
 returns c place stands =
     let t = c.self.inside in
     let at = ap (λ v. slice_get v.slots place) c.self.view_is ∙ stands in
     same_Some c.in-Some.place place (c.in-Some.ensures ∙ ap (λ l. position_from (λ other. other == c.args.slot) 0 l) c.deref.ensures.value
-    ∙ first_place t.order.items 0 place c.args.slot c.self.invariant.apart at ∙ ap (λ (n : ℕ). Some n) (zero-add place))
+    ∙ first_place t.order.items 0 place c.args.slot c.self.invariant.0.apart at ∙ ap (λ (n : ℕ). Some n) (zero-add place))

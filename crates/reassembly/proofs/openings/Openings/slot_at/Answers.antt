@@ -8,12 +8,12 @@ use Rattle.reassembly.proofs.openings.Openings.slot_at.Goals as goal
 pub index-requires : goal.index-requires
 index-requires c =
     let t = c.self.inside in
-    omega (arith, c.requires, length-list (get t.buffers) t.order.items c.self.invariant.taken, ap (λ v. length v.list) c.self.view_is)
+    omega (arith, c.requires, length-list (get t.buffers) t.order.items c.self.invariant.0.taken, ap (λ v. length v.list) c.self.view_is)
 
 pub returns : goal.returns
 returns c =
     let t = c.self.inside in
     let within : c.args.place < length t.order.items
-    = omega (arith, c.requires, length-list (get t.buffers) t.order.items c.self.invariant.taken, ap (λ v. length v.list) c.self.view_is) in
+    = omega (arith, c.requires, length-list (get t.buffers) t.order.items c.self.invariant.0.taken, ap (λ v. length v.list) c.self.view_is) in
     ap (λ v. slice_get v.slots c.args.place) (sym c.self.view_is)
     ∙ slice_get_read t.order.items (length t.order.items) c.args.place c.index.result.now refl within c.index.ensures

@@ -33,8 +33,15 @@ returns-in-Some-clause-is_at c =
       key_is = there.key_is;
     }
 
-pub push-requires : goal.push-requires
-push-requires c =
+pub push-requires-clause-few : goal.push-requires-clause-few
+push-requires-clause-few c =
+    let missing = slot_missing c.args.segment.now.key 0 c.args.self.now.openings
+    (sym c.requires.place ∙ none_since c.args.place c.in_default.not-Some) in
+    let room = subst (λ (t : TableState). length t.openings < t.limits.slots) (sym c.self.view_is) (c.requires.room missing) in
+    omega (arith, room, c.self.invariant.0.slots_fit)
+
+pub push-requires-clause-room : goal.push-requires-clause-room
+push-requires-clause-room c =
     let missing = slot_missing c.args.segment.now.key 0 c.args.self.now.openings
     (sym c.requires.place ∙ none_since c.args.place c.in_default.not-Some) in
     let room = subst (λ (t : TableState). length t.openings < t.limits.slots) (sym c.self.view_is) (c.requires.room missing) in

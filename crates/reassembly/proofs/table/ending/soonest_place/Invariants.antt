@@ -1,5 +1,5 @@
 use Rattle.reassembly.proofs.Due.{IsFound}
-use Rattle.reassembly.proofs.table.ending.due_place.Given as goal
+use Rattle.reassembly.proofs.table.ending.soonest_place.Given as goal
 
 abbrev pub invariant-loop-place : goal.invariant-loop-place
-invariant-loop-place l = IsFound l.now l.openings.list l.place l.found
+invariant-loop-place l = IsFound l.openings.list l.place l.found
