@@ -4,8 +4,10 @@ ghost use Rattle.std.specs.List.{AllByRecursion, flat_map};
 ghost use Rattle.clnp_machine.specs.ClnpOptions.Grammar.{FitsKind};
 ghost use Rattle.clnp_machine.specs.ClnpOptions.Parameter.{parameters};
 ghost use Rattle.clnp_machine.specs.PduHeader.Grammar.{BeginsWith, is_report};
+ghost use Rattle.clnp_machine.specs.PduHeader.Headers.{SpellsHeader};
 ghost use Rattle.clnp_machine.specs.PduHeader.Rules.{octet};
 ghost use Rattle.clnp_machine.specs.PduHeader.Value.{PduValue};
+ghost use Rattle.clnp_machine.specs.PduHeader.View.{pdu_value};
 ghost use Rattle.clnp_machine.specs.ClnpPlan.Configuration.{IsPort};
 ghost use Rattle.clnp_machine.specs.Content.{Content, IsCarried, Labelled, frame_of};
 ghost use Rattle.clnp_machine.specs.Given.{Appends};
@@ -21,7 +23,7 @@ ghost use Rattle.clnp_machine.specs.Forwarding.Stands as routing;
 ghost use Rattle.local_entity.specs.Local.{DoAll, Does, IsWhy};
 ghost use Rattle.local_entity.specs.Sending.{transmission};
 ghost use Rattle.clnp_machine.specs.Segmenter.Left.{IsCutOf};
-ghost use Rattle.system_entity.specs.Comes.{ComesOf, HasValue, IsAtFront, LeavesAsItWas, TellsPdu};
+ghost use Rattle.system_entity.specs.Comes.{ComesOf, LeavesAsItWas, TellsPdu};
 ghost use Rattle.system_entity.specs.Deeds.{IsAtWork, IsFresh, LeavesParts};
 ghost use Rattle.system_entity.specs.Stands.{PartsStand, PartsStandSince};
 
@@ -35,7 +37,7 @@ use clnp_machine::esis_tables::Neighbour;
 use clnp_machine::forwarding::{RouteRefusal, Routes};
 use clnp_machine::laws;
 use clnp_machine::nsap::Address;
-use clnp_machine::pdu_header::{Kind, Refusal, decode};
+use clnp_machine::pdu_header::{Kind, Pdu, Refusal, decode};
 use clnp_machine::segmenter::Cuts;
 use clnp_machine::system_plan::{Ask, Note, Output, PortConfig, Role, SendRefusal, SystemConfig};
 use clnp_machine::way::{Hop, Way};
@@ -106,7 +108,7 @@ impl SystemEntity {
         laws::a_frame_carries_one_packet();
         laws::no_frame_is_of_both_protocols();
         match decode(frame.bytes()) {
-            Ok(pdu) => self.pdu_comes(alloc, Passing::of(&pdu), neighbour, group, frame, out),
+            Ok(pdu) => self.pdu_comes(alloc, &pdu, neighbour, group, frame, out),
             Err(Refusal::Broken(broken)) => {
                 self.drop_frame(alloc, frame, broken.reason, broken.place, out)?;
                 Ok(Arrival::Done)
@@ -123,7 +125,7 @@ impl SystemEntity {
     fn pdu_comes(
         &mut self,
         alloc: Global,
-        pdu: Passing,
+        pdu: &Pdu<'_>,
         neighbour: Neighbour,
         group: bool,
         frame: &Frame,
@@ -131,9 +133,10 @@ impl SystemEntity {
     ) -> Result<Arrival, NoMemory>
         requires at_work { IsAtWork self.old }
         requires few { length frame.now ≤ 70000 }
-        requires pdu { IsAtFront pdu frame.now }
+        requires front { BeginsWith frame.now (pdu_value pdu.now) pdu.now.rest.now }
+        requires header { SpellsHeader (pdu_value pdu.now) pdu.now.head.now }
         ensures comes { IfOk result (λ arrival. (s : SystemState) (p : Packet) (following : List ℕ) → PartsStand self.old s → IsCarriable p
-            → frame.now ≡ wire p ++ following → HasValue pdu (value_of p)
+            → frame.now ≡ wire p ++ following → pdu_value pdu.now ≡ value_of p
             → ComesOf arrival s neighbour group (Labelled p following) self.new out.old.items out.new.items) }
         ensures left { IfOk result (λ arrival. LeavesAsItWas arrival self.old self.new out.old.items out.new.items) }
         ensures pdu { IfOk result (λ arrival. TellsPdu arrival frame.now) }
@@ -149,7 +152,7 @@ impl SystemEntity {
             return Ok(Arrival::Done);
         }
         if !self.local.is_own(&pdu.to) {
-            return Ok(Arrival::Passes(pdu));
+            return Ok(Arrival::Passes(Passing::of(pdu)));
         }
         self.receive(alloc, neighbour, group, frame, out)?;
         Ok(Arrival::Done)

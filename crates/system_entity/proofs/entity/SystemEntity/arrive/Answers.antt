@@ -1,11 +1,10 @@
 -- The frame is a packet's, or refused.
 use Rattle.std.proofs.Common.{◌∙◌, sym, ap, subst, Some, None}
 use Rattle.std.proofs.lemmas.Result.{IfOk-weaker}
-use Rattle.clnp_machine.specs.PduHeader.Value.{PduValue}
 use Rattle.clnp_machine.specs.PduHeader.View.{pdu_value}
 use Rattle.clnp_machine.specs.Given.{Appends}
 use Rattle.clnp_machine.specs.System.{Effect}
-use Rattle.system_entity.specs.Comes.{ComesOf, HasValue}
+use Rattle.system_entity.specs.Comes.{ComesOf}
 use Rattle.system_entity.specs.Stands.{PartsStand}
 use Rattle.system_entity.proofs.Arrivals.{frame_broken, packet_found}
 use Rattle.system_entity.proofs.entity.SystemEntity.arrive.Goals as goal
@@ -17,8 +16,7 @@ returns-in-Ok-clause-comes c =
     packet_found c.a_frame_carries_one_packet.ensures c.no_frame_is_of_both_protocols.ensures.esis
     (λ content. ComesOf arrival s c.args.neighbour c.args.group content c.pdu_comes.new.self c.args.out.now.items c.pdu_comes.new.out.items)
     c.bytes.result.now (pdu_value c.in-Ok.pdu) c.in-Ok.pdu.rest.now c.in-Ok.ensures.found c.in-Ok.ensures.accepted.0 content carried (frame ∙ sym c.bytes.ensures)
-    (λ p following carriable same value. comes s p following h carriable (sym c.bytes.ensures ∙ same)
-    (subst (λ (v : PduValue). HasValue c.of.result v) value c.of.ensures)))
+    (λ p following carriable same value. comes s p following h carriable (sym c.bytes.ensures ∙ same) value))
     c.pdu_comes.ensures.comes
 
 pub returns-in_ok-drop_frame-in-Err-Broken-clause-comes : goal.returns-in_ok-drop_frame-in-Err-Broken-clause-comes

@@ -2,6 +2,7 @@
 use Rattle.std.proofs.Common.{◌≡◌, ◌∙◌, ℕ, true, false, sym, ap, subst, List, None}
 use Rattle.std.specs.Prelude.{◌==◌}
 use Rattle.std.proofs.lemmas.Bool.{eq-eqb, ne_eqb}
+use Rattle.clnp_machine.specs.PduHeader.Value.{PduValue}
 use Rattle.clnp_machine.specs.ClnpPlan.Configuration.{SystemConfiguration}
 use Rattle.clnp_machine.specs.Content.{Labelled}
 use Rattle.clnp_machine.specs.Given.{Appends}
@@ -15,7 +16,7 @@ use Rattle.system_entity.proofs.entity.SystemEntity.pdu_comes.Goals as goal
 
 pub returns-then-pdu-eq0-clause-comes : goal.returns-then-pdu-eq0-clause-comes
 returns-then-pdu-eq0-clause-comes c = λ s p following h carriable frame is.
-    let over : (p.lifetime == 0) ≡ true = eq-eqb p.lifetime 0 (is.lifetime ∙ c.if-pdu-eq0.true) in
+    let over : (p.lifetime == 0) ≡ true = eq-eqb p.lifetime 0 (sym (ap (λ (v : PduValue). v.lifetime) is) ∙ c.if-pdu-eq0.true) in
     record {
       parts = subst (λ (t : SystemState). PartsStand c.drop_frame.new.self t) (sym (expired_after s p following c.args.neighbour c.args.group over))
           (subst (λ (reason : ℕ). PartsStand c.drop_frame.new.self (discard s (Labelled p following) reason 0).after)
@@ -29,10 +30,10 @@ returns-then-pdu-eq0-clause-comes c = λ s p following h carriable frame is.
 pub returns-clause-comes : goal.returns-clause-comes
 returns-clause-comes c = λ s p following h carriable frame is.
     let parts = subst (λ (e : SystemEntityState). PartsStand e s) (sym c.self.view_is) h in
-    let alive : (p.lifetime == 0) ≡ false = ne_eqb p.lifetime 0 (λ none. c.if-pdu-eq0.false (sym is.lifetime ∙ none)) in
+    let alive : (p.lifetime == 0) ≡ false = ne_eqb p.lifetime 0 (λ none. c.if-pdu-eq0.false (ap (λ (v : PduValue). v.lifetime) is ∙ none)) in
     let own : is_own s p.unit.destination ≡ true =
-    ap (λ (a : List ℕ). has_address s.configuration a) is.destination
-    ∙ ap (λ (x : SystemConfiguration). has_address x c.args.pdu.to) (sym parts.local.configuration) ∙ sym c.if-not-is_own.ensures in
+    ap (λ (v : PduValue). has_address s.configuration v.destination) (sym is)
+    ∙ ap (λ (x : SystemConfiguration). has_address x c.args.pdu.now.to) (sym parts.local.configuration) ∙ sym c.if-not-is_own.ensures in
     record {
       parts = c.in_ok-receive.ensures.stands s p following h carriable frame alive own;
       outputs = c.in_ok-receive.ensures.outputs s p following h carriable frame alive own;
