@@ -4,6 +4,7 @@
 
 mod ask;
 mod config;
+mod digits;
 mod journal;
 mod line;
 mod note;

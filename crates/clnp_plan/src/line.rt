@@ -5,6 +5,7 @@ ghost use Rattle.clnp_plan.specs.Journal.{behind_space, line_of, octets_word, on
 ghost use Rattle.clnp_plan.specs.Words.{word_text};
 ghost use Rattle.pdu_header.specs.Kinds.{kind_word};
 
+use crate::digits::push_digits;
 use pdu_header::Kind;
 use pdu_header::clnp_base::{NoMemory, push, push_decimal, push_hex, push_number};
 use pdu_header::nsap::{Address, Prefix, Target};
@@ -107,12 +108,12 @@ fn push_word(word: Word<'_>, out: &mut Vec<u8>) -> Result<(), NoMemory>
         Word::KeyedNumber(key, number) => push_number(key, number, out),
         Word::Octet(octet) => push_hex(&[octet], out),
         Word::Identifier(identifier) => push_hex(&identifier.to_be_bytes(), out),
-        Word::Octets(octets) => push_hex(octets, out),
+        Word::Octets(octets) => push_digits(octets, out),
         Word::KeyedOctets(key, octets) => {
             push(key, out)?;
-            push_hex(octets, out)
+            push_digits(octets, out)
         }
-        Word::Address(address) => push_hex(address.as_bytes(), out),
+        Word::Address(address) => push_digits(address.as_bytes(), out),
         Word::Prefix(prefix) => prefix.push_text(out),
         Word::Pattern(len, start) => {
             push_number(b"pat:", u64::from(len), out)?;
