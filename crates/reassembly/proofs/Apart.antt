@@ -18,18 +18,18 @@ ends_at place (first ∷ next ∷ others) run e =
     let index : length (first ∷ next ∷ others) - 1 ≡ suc (length (next ∷ others) - 1) = omega arith in
     ends_at place (next ∷ others) run (ap (slice_get (first ∷ next ∷ others)) (sym index) ∙ e)
 
-last_to : (low high : ℕ) (runs : List Run) (run : Run) → AreJoined low high runs → slice_get runs (length runs - 1) ≡ Some run → run.to ≡ high
+pub last_to : (low high : ℕ) (runs : List Run) (run : Run) → AreJoined low high runs → slice_get runs (length runs - 1) ≡ Some run → run.to ≡ high
 last_to low high [] run joined e = absurd (cc)
 last_to low high (first ∷ []) run joined e = ap (λ (r : Run). r.to) (sym (same_Some first run e)) ∙ joined.1.1
 last_to low high (first ∷ next ∷ others) run joined e =
     let index : length (first ∷ next ∷ others) - 1 ≡ suc (length (next ∷ others) - 1) = omega arith in
     last_to first.to high (next ∷ others) run joined.1.1 (ap (slice_get (first ∷ next ∷ others)) (sym index) ∙ e)
 
-all_end : (low high : ℕ) (runs : List Run) → AreJoined low high runs → AllByRecursion (λ run. run.to ≤ high) runs
+pub all_end : (low high : ℕ) (runs : List Run) → AreJoined low high runs → AllByRecursion (λ run. run.to ≤ high) runs
 all_end low high [] joined = tt
 all_end low high (run ∷ others) joined = (joined_order run.to high others joined.1.1, all_end run.to high others joined.1.1)
 
-all_begin : (place low high : ℕ) (runs : List Run) → AreJoined low high runs → place ≤ low → AllByRecursion (λ run. place ≤ run.from) runs
+pub all_begin : (place low high : ℕ) (runs : List Run) → AreJoined low high runs → place ≤ low → AllByRecursion (λ run. place ≤ run.from) runs
 all_begin place low high [] joined least = tt
 all_begin place low high (run ∷ others) joined least =
     (omega (arith, joined.0, least), all_begin place run.to high others joined.1.1 (omega (arith, joined.0, joined.1.0, least)))

@@ -30,6 +30,7 @@ pub mod Marking
 pub mod NoWhole
 pub mod Opened
 pub mod Paged
+pub mod Passing
 pub mod Ready
 pub mod Refusing
 pub mod Removing

@@ -63,7 +63,7 @@ behind_here : (place low high : ℕ) (page : List Run) → AreJoined low high pa
 behind_here place low high [] joined e = absurd (false≢true e)
 behind_here place low high (run ∷ others) joined e = ltb-true place high (sym (ends_last place low high run others joined) ∙ e)
 
-any_none : {X : Type 0} (p : X → Bool) (x : X) (xs : List X) → list_any p (x ∷ xs) ≡ false → (p x ≡ false) × (list_any p xs ≡ false)
+pub any_none : {X : Type 0} (p : X → Bool) (x : X) (xs : List X) → list_any p (x ∷ xs) ≡ false → (p x ≡ false) × (list_any p xs ≡ false)
 any_none p x xs none =
     elim (cases_Bool (p x)) [
       | inl t ↦ absurd (let h = rw t at none in cc)

@@ -49,7 +49,7 @@ same_all f [] same = refl
 same_all f (x ∷ xs) same = ap (λ y. y ∷ xs) (sym same.0) ∙ ap (λ l. f x ∷ l) (same_all f xs same.1)
 
 -- a part is mapped, where what is before and behind it stays the same
-part_mapped : {X : Type 0} (f : X → X) (xs : List X) (a k : ℕ) → AllByRecursion (λ x. f x ≡ x) (take a xs)
+pub part_mapped : {X : Type 0} (f : X → X) (xs : List X) (a k : ℕ) → AllByRecursion (λ x. f x ≡ x) (take a xs)
     → AllByRecursion (λ x. f x ≡ x) (drop k (drop a xs)) → take a xs ++ (map f (take k (drop a xs)) ++ drop k (drop a xs)) ≡ map f xs
 part_mapped f [] zero zero before behind = refl
 part_mapped f [] zero (suc k) before behind = refl

@@ -1,9 +1,9 @@
 //! Pages of runs: some runs of a unit that stand one behind the other.
-ghost use Rattle.std.specs.Prelude.{◌≡◌, ◌+◌, ◌<◌, ◌≤◌, ◌++◌, [], ◌∷◌, false, length, map, take, drop, true, Some, IfOk, vec_capacity};
+ghost use Rattle.std.specs.Prelude.{◌≡◌, ℕ, ◌+◌, ◌<◌, ◌≤◌, ◌++◌, [], ◌∷◌, false, length, map, take, drop, true, Some, IfOk, vec_capacity};
 ghost use Rattle.std.specs.List.{AllByRecursion, list_any, position_from};
 ghost use Rattle.reassembly.specs.declared.runs.Run.{Run};
 ghost use Rattle.reassembly.specs.Pages.{IsApart, ends_behind};
-ghost use Rattle.reassembly.specs.Runs.{AreInOrder, cut, is_across, is_gap, marked, named_in, renamed, unfilled};
+ghost use Rattle.reassembly.specs.Runs.{AreInOrder, AreJoined, cut, is_across, is_gap, marked, named_in, renamed, unfilled};
 
 use crate::runs::Run;
 use nsap::clnp_base::NoMemory;
@@ -75,6 +75,26 @@ impl Page {
     {
         match self.runs.last() {
             Some(run) => place < run.to,
+            None => false,
+        }
+    }
+
+    /// Whether it has runs, and all of them end by a place.
+    pub(crate) fn ends_by(&self, place: u16) -> bool
+        ensures { (low high : ℕ) → result ≡ true → AreJoined low high self.now → high ≤ place }
+    {
+        match self.runs.last() {
+            Some(run) => run.to <= place,
+            None => false,
+        }
+    }
+
+    /// Whether it has runs, and all of them begin from a place on.
+    pub(crate) fn begins_from(&self, place: u16) -> bool
+        ensures { (low high : ℕ) → result ≡ true → AreJoined low high self.now → place ≤ low }
+    {
+        match self.runs.first() {
+            Some(run) => place <= run.from,
             None => false,
         }
     }

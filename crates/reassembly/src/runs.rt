@@ -1,7 +1,7 @@
 //! Runs of places of a unit's data: holes, and pieces that kept segments fill. They stand on pages, so that a segment moves
 //! few of them; the pages of all open units stand in one list, those of one unit together.
 ghost use Rattle.std.specs.Prelude.{◌≡◌, ◌+◌, ◌<◌, ◌≤◌, ◌^◌, List, [], ◌∷◌, ◌++◌, drop, length, map, sum, take, IfOk, MatchOption, Some, slice_get, slice_set, vec_capacity};
-ghost use Rattle.std.specs.List.{list_any, position_from, remove};
+ghost use Rattle.std.specs.List.{AllByRecursion, list_any, position_from, remove};
 ghost use Rattle.reassembly.specs.declared.runs.Run.{Run};
 ghost use Rattle.reassembly.specs.Pages.{AreCut, ends_behind, on_pages};
 ghost use Rattle.reassembly.specs.Runs.{AreInOrder, cut, filled, is_gap, marked, renamed, total_runs, unfilled};
@@ -153,7 +153,7 @@ impl Runs {
     {
         let start = self.counts.start_at(slot);
         let end = start + self.counts.count_at(slot);
-        mark_pages(&mut self.pages[start..end], from, to, by);
+        mark_on(&mut self.pages[start..end], from, to, by);
     }
 
     /// Takes the runs of a unit out.
@@ -233,10 +233,20 @@ pub(crate) fn has_gap(runs: &Group<'_>, from: u16, to: u16) -> bool
     requires { AreInOrder runs.now }
     ensures { result ≡ list_any (is_gap from to) runs.now }
 {
-    has_gap_in(runs.first, from, to) || have_gap(runs.others, from, to)
+    has_gap_in(runs.first, from, to) || has_gap_on(runs.others, from, to)
 }
 
 /// The same of runs on pages.
+fn has_gap_on(pages: &[Page], from: u16, to: u16) -> bool
+    requires { AreInOrder (on_pages pages.now) }
+    ensures { result ≡ list_any (is_gap from to) (on_pages pages.now) }
+{
+    let last = begun_before(pages, to);
+    let first = ended_by(&pages[..last], from);
+    have_gap(&pages[first..last], from, to)
+}
+
+/// The same, by a walk over the pages.
 fn have_gap(pages: &[Page], from: u16, to: u16) -> bool
     requires { AreInOrder (on_pages pages.now) }
     ensures { result ≡ list_any (is_gap from to) (on_pages pages.now) }
@@ -281,8 +291,49 @@ fn blank_pages(alloc: Global, count: usize) -> Result<Vec<Page>, NoMemory>
     Ok(pages)
 }
 
+/// Of how many pages, the first ones, it is plain that all their runs end by a place.
+fn ended_by(pages: &[Page], place: u16) -> usize
+    requires { AreInOrder (on_pages pages.now) }
+    ensures within { result ≤ length pages.now }
+    ensures ended { AllByRecursion (λ run. run.to ≤ place) (on_pages (take result pages.now)) }
+{
+    let count = pages.partition_point(|page| page.ends_by(place));
+    // What was found is compared: a page without runs would lead the search astray.
+    if count > 0 && pages[count - 1].ends_by(place) {
+        count
+    } else {
+        0
+    }
+}
+
+/// Behind how many pages, the first ones, it is plain that all runs begin from a place on.
+fn begun_before(pages: &[Page], place: u16) -> usize
+    requires { AreInOrder (on_pages pages.now) }
+    ensures within { result ≤ length pages.now }
+    ensures others { AllByRecursion (λ run. place ≤ run.from) (on_pages (drop result pages.now)) }
+{
+    let count = pages.partition_point(|page| !page.begins_from(place));
+    if count < pages.len() && pages[count].begins_from(place) {
+        count
+    } else {
+        pages.len()
+    }
+}
+
 /// The index of the page on which the first run stands that ends behind a place.
 fn page_of(pages: &[Page], place: u16) -> Option<usize>
+    requires { AreInOrder (on_pages pages.now) }
+    ensures { result ≡ position_from (ends_behind place) 0 pages.now }
+{
+    let first = ended_by(pages, place);
+    match first_behind(&pages[first..], place) {
+        Some(at) => Some(first + at),
+        None => None,
+    }
+}
+
+/// The same, by a walk over the pages.
+fn first_behind(pages: &[Page], place: u16) -> Option<usize>
     ensures { result ≡ position_from (ends_behind place) 0 pages.now }
 {
     pages.iter().position(|page| page.ends_behind(place))
@@ -325,6 +376,16 @@ fn cut_pages(
 }
 
 /// Makes each hole from a place to the place before another a piece of a segment.
+fn mark_on(pages: &mut [Page], from: u16, to: u16, by: u16)
+    requires { AreInOrder (on_pages pages.old) }
+    ensures { pages.new ≡ map (map (marked from to by)) pages.old }
+{
+    let last = begun_before(pages, to);
+    let first = ended_by(&pages[..last], from);
+    mark_pages(&mut pages[first..last], from, to, by);
+}
+
+/// The same, by a walk over the pages.
 fn mark_pages(pages: &mut [Page], from: u16, to: u16, by: u16)
     requires { AreInOrder (on_pages pages.old) }
     ensures { pages.new ≡ map (map (marked from to by)) pages.old }

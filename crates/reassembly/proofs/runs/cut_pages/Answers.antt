@@ -1,9 +1,10 @@
 -- The page on which the hole is, if it is there.
-use Rattle.std.proofs.Common.{◌≡◌, ◌+◌, ◌-◌, [], Some, None, ap, arith, drop, length, sym, take, ◌∙◌}
+use Rattle.std.proofs.Common.{◌≡◌, ◌+◌, ◌-◌, [], Some, None, ap, arith, drop, length, subst, sym, take, ◌∙◌}
 use Rattle.std.specs.List.{position_from}
 use Rattle.std.proofs.lemmas.List.{length_push}
 use Rattle.nsap.proofs.ClnpBase.Choices.{none_since}
-use Rattle.reassembly.specs.Pages.{ends_behind}
+use Rattle.reassembly.specs.Pages.{ends_behind, on_pages}
+use Rattle.reassembly.specs.Runs.{AreInOrder}
 use Rattle.reassembly.proofs.Paged.{at_below, cut_halved, cut_nowhere, cut_whole, page_ordered}
 use Rattle.reassembly.proofs.runs.cut_pages.Goals as goal
 
@@ -96,3 +97,10 @@ returns-clause-cut c =
       ap length c.in-Ok-push.ensures.items,
       length_push c.pop.new.self.items c.cut.new.other,
     ))
+
+pub page_of-requires : goal.page_of-requires
+page_of-requires c =
+    let size : c.args.start + c.args.count - c.args.start ≡ c.args.count = omega arith in
+    subst (λ p. AreInOrder (on_pages p))
+    (sym (ap (λ n. take n (drop c.args.start c.deref.result.now)) size ∙ ap (λ l. take c.args.count (drop c.args.start l)) c.deref.ensures.value))
+    c.requires.order

@@ -9,6 +9,6 @@ pub has_gap-requires : goal.has_gap-requires
 has_gap-requires c =
     first_order c.runs.inside.first.now (on_pages c.runs.inside.others.now) (subst AreInOrder (sym c.runs.view_is) c.requires)
 
-pub have_gap-requires : goal.have_gap-requires
-have_gap-requires c =
+pub has_gap_on-requires : goal.has_gap_on-requires
+has_gap_on-requires c =
     rest_order c.runs.inside.first.now (on_pages c.runs.inside.others.now) (subst AreInOrder (sym c.runs.view_is) c.requires)

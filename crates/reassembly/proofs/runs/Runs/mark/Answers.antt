@@ -29,16 +29,16 @@ overflow_add-end c =
     let count = sym (get_or_from_slice_get t.counts.items c.args.slot c.count_at.result 0 c.count_at.ensures) in
     omega (arith, fits t.counts.items t.pages.items _ (ap (λ v. v.groups) c.self.view_is) c.self.invariant.0.number c.args.slot c.requires.slot _ _ start count)
 
-pub slice_bounds-mark_pages-end : goal.slice_bounds-mark_pages-end
-slice_bounds-mark_pages-end c =
+pub slice_bounds-mark_on-end : goal.slice_bounds-mark_on-end
+slice_bounds-mark_on-end c =
     let t = c.self.inside in
     let within = inside t.counts.items t.pages.items _ (ap (λ v. v.groups) c.self.view_is) c.self.invariant.0.number c.args.slot c.requires.slot in
     let start = c.start_at-start.ensures in
     let count = sym (get_or_from_slice_get t.counts.items c.args.slot c.count_at.result 0 c.count_at.ensures) in
     omega (arith, fits t.counts.items t.pages.items _ (ap (λ v. v.groups) c.self.view_is) c.self.invariant.0.number c.args.slot c.requires.slot _ _ start count, ap length c.deref_mut.ensures.value)
 
-pub mark_pages-requires : goal.mark_pages-requires
-mark_pages-requires c =
+pub mark_on-requires : goal.mark_on-requires
+mark_on-requires c =
     let t = c.self.inside in
     let within = inside t.counts.items t.pages.items _ (ap (λ v. v.groups) c.self.view_is) c.self.invariant.0.number c.args.slot c.requires.slot in
     let start = c.start_at-start.ensures in
@@ -58,14 +58,14 @@ invariant_of-self c =
     let given = c.deref_mut.ensures.value in
     let f = marked c.args.from c.args.to c.args.by in
     let new = map (map f) (take c.count_at.result (drop c.start_at-start.result t.pages.items)) in
-    let marks : c.mark_pages.new.pages ≡ new = c.mark_pages.ensures
+    let marks : c.mark_on.new.pages ≡ new = c.mark_on.ensures
     ∙ ap (λ n. map (map f) (take n (drop c.start_at-start.result c.deref_mut.result.now))) size
     ∙ ap (λ l. map (map f) (take c.count_at.result (drop c.start_at-start.result l))) given in
     let start_at = c.start_at-start.result in
     let given_at : c.deref_mut.result.now ≡ t.pages.items = given in
-    let written : List (List Run) = take start_at c.deref_mut.result.now ++ (c.mark_pages.new.pages ++ drop (start_at + c.count_at.result - start_at) (drop start_at c.deref_mut.result.now)) in
+    let written : List (List Run) = take start_at c.deref_mut.result.now ++ (c.mark_on.new.pages ++ drop (start_at + c.count_at.result - start_at) (drop start_at c.deref_mut.result.now)) in
     let items : written ≡ take start_at t.pages.items ++ (new ++ drop c.count_at.result (drop start_at t.pages.items)) =
-    ap (λ l. take start_at l ++ (c.mark_pages.new.pages ++ drop (start_at + c.count_at.result - start_at) (drop start_at l))) given_at
+    ap (λ l. take start_at l ++ (c.mark_on.new.pages ++ drop (start_at + c.count_at.result - start_at) (drop start_at l))) given_at
     ∙ ap (λ l. take start_at t.pages.items ++ (l ++ drop (start_at + c.count_at.result - start_at) (drop start_at t.pages.items))) marks
     ∙ ap (λ n. take start_at t.pages.items ++ (new ++ drop n (drop start_at t.pages.items))) size in
     let long = length-map (take c.count_at.result (drop start_at t.pages.items)) (map f) in
@@ -89,14 +89,14 @@ returns-clause-groups c runs told =
     let given = c.deref_mut.ensures.value in
     let f = marked c.args.from c.args.to c.args.by in
     let new = map (map f) (take c.count_at.result (drop c.start_at-start.result t.pages.items)) in
-    let marks : c.mark_pages.new.pages ≡ new = c.mark_pages.ensures
+    let marks : c.mark_on.new.pages ≡ new = c.mark_on.ensures
     ∙ ap (λ n. map (map f) (take n (drop c.start_at-start.result c.deref_mut.result.now))) size
     ∙ ap (λ l. map (map f) (take c.count_at.result (drop c.start_at-start.result l))) given in
     let start_at = c.start_at-start.result in
     let given_at : c.deref_mut.result.now ≡ t.pages.items = given in
-    let written : List (List Run) = take start_at c.deref_mut.result.now ++ (c.mark_pages.new.pages ++ drop (start_at + c.count_at.result - start_at) (drop start_at c.deref_mut.result.now)) in
+    let written : List (List Run) = take start_at c.deref_mut.result.now ++ (c.mark_on.new.pages ++ drop (start_at + c.count_at.result - start_at) (drop start_at c.deref_mut.result.now)) in
     let items : written ≡ take start_at t.pages.items ++ (new ++ drop c.count_at.result (drop start_at t.pages.items)) =
-    ap (λ l. take start_at l ++ (c.mark_pages.new.pages ++ drop (start_at + c.count_at.result - start_at) (drop start_at l))) given_at
+    ap (λ l. take start_at l ++ (c.mark_on.new.pages ++ drop (start_at + c.count_at.result - start_at) (drop start_at l))) given_at
     ∙ ap (λ l. take start_at t.pages.items ++ (l ++ drop (start_at + c.count_at.result - start_at) (drop start_at t.pages.items))) marks
     ∙ ap (λ n. take start_at t.pages.items ++ (new ++ drop n (drop start_at t.pages.items))) size in
     let long = length-map (take c.count_at.result (drop start_at t.pages.items)) (map f) in
