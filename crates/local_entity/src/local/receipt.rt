@@ -1,7 +1,9 @@
 //! Receipt: PDUs for the system's own addresses, and reassembly buffers whose time has ended.
 ghost use Rattle.std.specs.Prelude.{◌≡◌, ◌≤◌, ◌<◌, ◌+◌, ◌^◌, ◌++◌, ◌∷◌, [], ℕ, List, IfOk, OnOk, OnErr, length};
 ghost use Rattle.clnp_machine.specs.PduHeader.Grammar.{BeginsWith};
+ghost use Rattle.clnp_machine.specs.PduHeader.Headers.{SpellsHeader};
 ghost use Rattle.clnp_machine.specs.PduHeader.Value.{PduValue};
+ghost use Rattle.clnp_machine.specs.PduHeader.View.{pdu_value};
 ghost use Rattle.clnp_machine.specs.Reassembly.State.{IsReady};
 ghost use Rattle.clnp_machine.specs.Unit.{Packet, IsCarriable, wire};
 ghost use Rattle.clnp_machine.specs.System.{SystemState};
@@ -51,18 +53,49 @@ impl Local {
         ensures ready { IsReady now self.old.table → IsReady now self.new.table }
     {
         laws::one_value();
-        machine_laws::a_frame_carries_one_packet();
         let Ok(pdu) = decode(frame.bytes()) else {
             unreachable!()
         };
-        let purpose = purpose_in(&pdu);
+        self.receive_pdu(alloc, now, &pdu, frame, out)
+    }
+
+    /// Receives a PDU for one of the system's addresses that was read at the front of a frame, as `receive` does the frame.
+    ///
+    /// # Errors
+    ///
+    /// `NoMemory`: nothing changes then.
+    pub fn receive_pdu(
+        &mut self,
+        alloc: Global,
+        now: u64,
+        pdu: &Pdu<'_>,
+        frame: &Frame,
+        out: &mut Vec<Action>,
+    ) -> Result<(), NoMemory>
+        requires moment { now < 2 ^ 62 }
+        requires few { length frame.now ≤ 70000 }
+        requires front { BeginsWith frame.now (pdu_value pdu.now) pdu.now.rest.now }
+        requires header { SpellsHeader (pdu_value pdu.now) pdu.now.head.now }
+        requires alive { 1 ≤ pdu.now.life }
+        ensures stands { OnOk result ((s : SystemState) (p : Packet) (following : List ℕ) → Stands self.old s → s.moment ≡ now
+            → IsCarriable p → frame.now ≡ wire p ++ following → Stands self.new (locally.receive s p following).after) }
+        ensures actions { OnOk result ((s : SystemState) (p : Packet) (following : List ℕ) → Stands self.old s → s.moment ≡ now
+            → IsCarriable p → frame.now ≡ wire p ++ following
+            → Appends out.old.items out.new.items (locally.receive s p following).actions) }
+        ensures same { OnErr result (self.new ≡ self.old) }
+        ensures none { OnErr result (out.new.items ≡ out.old.items) }
+        ensures config { self.new.configuration ≡ self.old.configuration }
+        ensures ready { IsReady now self.old.table → IsReady now self.new.table }
+    {
+        machine_laws::a_frame_carries_one_packet();
+        let purpose = purpose_in(pdu);
         let Some(part) = segment_part(pdu.seg, pdu.more) else {
             let octets = Octets::copy(alloc, pdu.body)?;
             return self
                 .endpoint
                 .hand_up(alloc, now, purpose, pdu.from, pdu.to, octets, out);
         };
-        let segment = segment_in(frame, &pdu, part)?;
+        let segment = segment_in(frame, pdu, part)?;
         self.offer(alloc, now, segment, purpose, frame, out)
     }
 }

@@ -6,7 +6,6 @@ ghost use Rattle.clnp_machine.specs.ClnpOptions.Parameter.{parameters};
 ghost use Rattle.clnp_machine.specs.PduHeader.Grammar.{BeginsWith, is_report};
 ghost use Rattle.clnp_machine.specs.PduHeader.Headers.{SpellsHeader};
 ghost use Rattle.clnp_machine.specs.PduHeader.Rules.{octet};
-ghost use Rattle.clnp_machine.specs.PduHeader.Value.{PduValue};
 ghost use Rattle.clnp_machine.specs.PduHeader.View.{pdu_value};
 ghost use Rattle.clnp_machine.specs.ClnpPlan.Configuration.{IsPort};
 ghost use Rattle.clnp_machine.specs.Content.{Content, IsCarried, Labelled, frame_of};
@@ -154,7 +153,7 @@ impl SystemEntity {
         if !self.local.is_own(&pdu.to) {
             return Ok(Arrival::Passes(Passing::of(pdu)));
         }
-        self.receive(alloc, neighbour, group, frame, out)?;
+        self.receive(alloc, pdu, neighbour, group, frame, out)?;
         Ok(Arrival::Done)
     }
 
@@ -163,6 +162,7 @@ impl SystemEntity {
     fn receive(
         &mut self,
         alloc: Global,
+        pdu: &Pdu<'_>,
         neighbour: Neighbour,
         group: bool,
         frame: &Frame,
@@ -170,7 +170,9 @@ impl SystemEntity {
     ) -> Result<(), NoMemory>
         requires at_work { IsAtWork self.old }
         requires few { length frame.now ≤ 70000 }
-        requires alive { (v : PduValue) × (rest : List ℕ) × BeginsWith frame.now v rest × (1 ≤ v.lifetime) }
+        requires front { BeginsWith frame.now (pdu_value pdu.now) pdu.now.rest.now }
+        requires header { SpellsHeader (pdu_value pdu.now) pdu.now.head.now }
+        requires alive { 1 ≤ pdu.now.life }
         ensures stands { OnOk result ((s : SystemState) (p : Packet) (following : List ℕ) → PartsStand self.old s → IsCarriable p
             → frame.now ≡ wire p ++ following → (p.lifetime == 0) ≡ false → is_own s p.unit.destination ≡ true
             → PartsStand self.new (content_comes s neighbour group (Labelled p following)).after) }
@@ -188,7 +190,8 @@ impl SystemEntity {
         laws::hellos_leave_the_rest();
         let mut outputs = Vec::new(alloc);
         let mut actions = Vec::new(alloc);
-        self.local.receive(alloc, self.moment, frame, &mut actions)?;
+        self.local
+            .receive_pdu(alloc, self.moment, pdu, frame, &mut actions)?;
         self.give_out(actions, &mut outputs)?;
         self.respond(neighbour, group, &mut outputs)?;
         out.append(&mut outputs)?;

@@ -1,94 +1,23 @@
--- By what the frame begins with.
-use Rattle.std.proofs.Common.{◌≤◌, ℕ, List, length, ap, sym, ◌∙◌, subst, arith}
-use Rattle.std.proofs.lemmas.Result.{on_ok_weaker}
-use Rattle.clnp_machine.specs.ClnpOptions.Parameter.{parameters}
+-- The frame spells the PDU that is read.
+use Rattle.std.proofs.Common.{◌≤◌, List, ℕ, subst, sym}
 use Rattle.clnp_machine.specs.PduHeader.Grammar.{BeginsWith}
 use Rattle.clnp_machine.specs.PduHeader.Value.{PduValue}
 use Rattle.clnp_machine.specs.PduHeader.View.{pdu_value}
-use Rattle.clnp_machine.specs.Reassembly.declared.segment.Segment.{Segment}
-use Rattle.clnp_machine.specs.Reassembly.Offered.{MayCome}
-use Rattle.clnp_machine.specs.Content.{Labelled}
-use Rattle.clnp_machine.specs.Local.{Deed, hand_up, offered}
-use Rattle.local_entity.specs.State.{EntityState}
-use Rattle.local_entity.specs.Endpoint.{StandsWith}
-use Rattle.local_entity.specs.Local.{Appends, Stands}
-use Rattle.local_entity.specs.Receipt.{IsShown, purpose_of}
-use Rattle.local_entity.proofs.Receiving.{is_shown, may_come, receives_segment, receives_whole, value_is}
 use Rattle.local_entity.proofs.local.Local.receive.Goals as goal
-use Rattle.local_entity.proofs.Parts.{length-header}
 
 pub unreachable-requires : goal.unreachable-requires
 unreachable-requires c =
     let alive = c.requires.alive in
     c.in_default.ensures.none alive.0 alive.1 (subst (λ (frame : List ℕ). BeginsWith frame alive.0 alive.1) (sym c.bytes.ensures) alive.2)
 
-pub returns-in_default-segment_part-clause-stands :
-    goal.returns-in_default-segment_part-clause-stands
-returns-in_default-segment_part-clause-stands c =
-    on_ok_weaker c.hand_up.result
-    (λ handed s p following stands moment carriable split.
-    let pdu = c.in-Ok.pdu in
-    let e = value_is c.a_frame_carries_one_packet.ensures c.bytes.result.now (pdu_value pdu) pdu.rest.now c.in-Ok.ensures.found p following carriable (c.bytes.ensures ∙ split) in
-    let here = subst (λ (e : EntityState). Stands e s) (sym c.self.view_is) stands in
-    subst (λ (deed : Deed). StandsWith c.self.inside.table c.hand_up.new.self deed.after)
-    (ap (λ (octets : List ℕ). hand_up s pdu.kind pdu.from pdu.to octets (parameters pdu.options.now)) c.in_ok-octets.ensures
-    ∙ sym (receives_whole pdu s p following e (sym c.segment_part.ensures ∙ c.in_default-segment_part.is)))
-    (handed c.self.inside.table s pdu.kind (parameters pdu.options.now) here moment c.purpose_in-purpose.ensures))
-    c.hand_up.ensures.stands
+pub receive_pdu-requires-clause-front : goal.receive_pdu-requires-clause-front
+receive_pdu-requires-clause-front c =
+    subst (λ (frame : List ℕ). BeginsWith frame (pdu_value c.in-Ok.pdu) c.in-Ok.pdu.rest.now) c.bytes.ensures c.in-Ok.ensures.found
 
-pub returns-in_default-segment_part-clause-actions :
-    goal.returns-in_default-segment_part-clause-actions
-returns-in_default-segment_part-clause-actions c =
-    on_ok_weaker c.hand_up.result
-    (λ handed s p following stands moment carriable split.
-    let pdu = c.in-Ok.pdu in
-    let e = value_is c.a_frame_carries_one_packet.ensures c.bytes.result.now (pdu_value pdu) pdu.rest.now c.in-Ok.ensures.found p following carriable (c.bytes.ensures ∙ split) in
-    let here = subst (λ (e : EntityState). Stands e s) (sym c.self.view_is) stands in
-    subst (λ (deed : Deed). Appends c.args.out.now.items c.hand_up.new.out.items deed.actions)
-    (ap (λ (octets : List ℕ). hand_up s pdu.kind pdu.from pdu.to octets (parameters pdu.options.now)) c.in_ok-octets.ensures
-    ∙ sym (receives_whole pdu s p following e (sym c.segment_part.ensures ∙ c.in_default-segment_part.is)))
-    (handed c.self.inside.table s pdu.kind (parameters pdu.options.now) here moment c.purpose_in-purpose.ensures))
-    c.hand_up.ensures.actions
-
-pub segment_in-requires-clause-head : goal.segment_in-requires-clause-head
-segment_in-requires-clause-head c =
-    let fits = c.in-Ok.ensures.found.spells.pdu.header_fits in
-    omega (arith, ap length c.in-Ok.ensures.header, length-header (pdu_value c.in-Ok.pdu))
-
-pub offer-requires-clause-offered : goal.offer-requires-clause-offered
-offer-requires-clause-offered c =
+pub receive_pdu-requires-clause-alive : goal.receive_pdu-requires-clause-alive
+receive_pdu-requires-clause-alive c =
     let pdu = c.in-Ok.pdu in
     let alive = c.requires.alive in
     let begins = subst (λ (frame : List ℕ). BeginsWith frame (pdu_value pdu) pdu.rest.now) c.bytes.ensures c.in-Ok.ensures.found in
     let same = (c.one_value.ensures c.args.frame.now alive.0 (pdu_value pdu) alive.1 pdu.rest.now alive.2 begins).0 in
-    subst MayCome (sym c.in_ok-segment.ensures)
-    (may_come c.args.frame.now pdu c.in-Some.part c.in-Ok.ensures.header (sym c.segment_part.ensures ∙ c.in-Some.is) pdu.rest.now begins c.requires.few
-    (subst (λ (v : PduValue). 1 ≤ v.lifetime) same alive.3))
-
-pub returns-clause-stands : goal.returns-clause-stands
-returns-clause-stands c =
-    on_ok_weaker c.offer.result
-    (λ offers s p following stands moment carriable split.
-    let pdu = c.in-Ok.pdu in
-    let some = sym c.segment_part.ensures ∙ c.in-Some.is in
-    let e = value_is c.a_frame_carries_one_packet.ensures c.bytes.result.now (pdu_value pdu) pdu.rest.now c.in-Ok.ensures.found p following carriable (c.bytes.ensures ∙ split) in
-    let shows = subst (λ (segment : Segment). IsShown segment (offered p following)) (sym c.in_ok-segment.ensures)
-    (is_shown c.args.frame.now pdu c.in-Some.part c.in-Ok.ensures.header some p following carriable split e) in
-    subst (λ (deed : Deed). Stands c.offer.new.self deed.after) (sym (receives_segment pdu c.in-Some.part s p following e some))
-    (offers s (Labelled p following) (offered p following) stands moment shows (sym split)
-    (c.purpose_in-purpose.ensures ∙ ap (λ (v : PduValue). purpose_of v.kind v.options) e)))
-    c.offer.ensures.stands
-
-pub returns-clause-actions : goal.returns-clause-actions
-returns-clause-actions c =
-    on_ok_weaker c.offer.result
-    (λ offers s p following stands moment carriable split.
-    let pdu = c.in-Ok.pdu in
-    let some = sym c.segment_part.ensures ∙ c.in-Some.is in
-    let e = value_is c.a_frame_carries_one_packet.ensures c.bytes.result.now (pdu_value pdu) pdu.rest.now c.in-Ok.ensures.found p following carriable (c.bytes.ensures ∙ split) in
-    let shows = subst (λ (segment : Segment). IsShown segment (offered p following)) (sym c.in_ok-segment.ensures)
-    (is_shown c.args.frame.now pdu c.in-Some.part c.in-Ok.ensures.header some p following carriable split e) in
-    subst (λ (deed : Deed). Appends c.args.out.now.items c.offer.new.out.items deed.actions) (sym (receives_segment pdu c.in-Some.part s p following e some))
-    (offers s (Labelled p following) (offered p following) stands moment shows (sym split)
-    (c.purpose_in-purpose.ensures ∙ ap (λ (v : PduValue). purpose_of v.kind v.options) e)))
-    c.offer.ensures.actions
+    subst (λ (v : PduValue). 1 ≤ v.lifetime) same alive.3

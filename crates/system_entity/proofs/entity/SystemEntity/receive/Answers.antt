@@ -4,6 +4,7 @@ use Rattle.std.specs.List.{AllByRecursion}
 use Rattle.clnp_machine.specs.ClnpPlan.Configuration.{SystemConfiguration}
 use Rattle.clnp_machine.specs.Given.{Appends}
 use Rattle.clnp_machine.specs.Local.{has_address, is_own, receive}
+use Rattle.clnp_machine.specs.PduHeader.View.{pdu_value}
 use Rattle.clnp_machine.specs.Step.{effect_of, responds}
 use Rattle.clnp_machine.specs.System.{SystemState, Output}
 use Rattle.system_entity.specs.Deeds.{IsFresh}
@@ -20,13 +21,13 @@ pub give_out-requires : goal.give_out-requires
 give_out-requires c =
     let s = c.requires.at_work.state in
     let parts = subst (λ (e : SystemEntityState). PartsStand e s) (sym c.self.view_is) c.requires.at_work.parts in
-    let v = c.requires.alive.0 in
-    let rest = c.requires.alive.1 in
-    let begins = c.requires.alive.2 in
+    let v = pdu_value c.args.pdu.now in
+    let rest = c.args.pdu.now.rest.now in
+    let begins = c.requires.front in
     let deed = receive s (packet_of v) rest in (
       deed.actions,
-      all_done c.new-actions.result.items c.receive.new.out.items deed.actions c.new-actions.ensures.items
-          (c.in_ok-receive.ensures.actions s (packet_of v) rest parts.local (sym parts.moment) (packet_carriable v begins.spells.pdu)
+      all_done c.new-actions.result.items c.receive_pdu.new.out.items deed.actions c.new-actions.ensures.items
+          (c.in_ok-receive_pdu.ensures.actions s (packet_of v) rest parts.local (sym parts.moment) (packet_carriable v begins.spells.pdu)
           (frame_is c.args.frame.now v rest begins)),
     )
 
@@ -35,10 +36,10 @@ returns-clause-stands c = λ s p following h carriable frame alive own.
     let parts = subst (λ (e : SystemEntityState). PartsStand e s) (sym c.self.view_is) h in
     let deed = receive s p following in
     let is = c.deeds_are_of_their_moment.ensures.receive s p following in
-    let here : SystemEntityState = record (state_of c.self.inside) { local = c.receive.new.self } in
+    let here : SystemEntityState = record (state_of c.self.inside) { local = c.receive_pdu.new.self } in
     subst (λ (t : SystemState). PartsStand here t) (sym (received_after s p following c.args.neighbour c.args.group alive own))
-    (parts_now s.moment here deed.after is.moment (parts_after_deed s.moment _ c.receive.new.self s deed is
-    (c.in_ok-receive.ensures.stands s p following parts.local (sym parts.moment) carriable frame) parts))
+    (parts_now s.moment here deed.after is.moment (parts_after_deed s.moment _ c.receive_pdu.new.self s deed is
+    (c.in_ok-receive_pdu.ensures.stands s p following parts.local (sym parts.moment) carriable frame) parts))
 
 pub returns-clause-outputs : goal.returns-clause-outputs
 returns-clause-outputs c = λ s p following h carriable frame alive own.
@@ -46,11 +47,11 @@ returns-clause-outputs c = λ s p following h carriable frame alive own.
     let deed = receive s p following in
     let t = deed.after in
     let is = c.deeds_are_of_their_moment.ensures.receive s p following in
-    let here : SystemEntityState = record (state_of c.self.inside) { local = c.receive.new.self } in
-    let stands : PartsStand here t = parts_now s.moment here t is.moment (parts_after_deed s.moment _ c.receive.new.self s deed is
-    (c.in_ok-receive.ensures.stands s p following parts.local (sym parts.moment) carriable frame) parts) in
-    let done = all_done c.new-actions.result.items c.receive.new.out.items deed.actions c.new-actions.ensures.items
-    (c.in_ok-receive.ensures.actions s p following parts.local (sym parts.moment) carriable frame) in
+    let here : SystemEntityState = record (state_of c.self.inside) { local = c.receive_pdu.new.self } in
+    let stands : PartsStand here t = parts_now s.moment here t is.moment (parts_after_deed s.moment _ c.receive_pdu.new.self s deed is
+    (c.in_ok-receive_pdu.ensures.stands s p following parts.local (sym parts.moment) carriable frame) parts) in
+    let done = all_done c.new-actions.result.items c.receive_pdu.new.out.items deed.actions c.new-actions.ensures.items
+    (c.in_ok-receive_pdu.ensures.actions s p following parts.local (sym parts.moment) carriable frame) in
     let first = c.in_ok-give_out.ensures t t.moment deed.actions stands done
     (subst (λ (m : ℕ). AllByRecursion (IsFresh m) deed.actions) (sym is.moment) (deed_is_fresh s deed is)) in
     let own_there : is_own t p.unit.destination ≡ true =
