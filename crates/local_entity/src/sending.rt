@@ -41,6 +41,7 @@ pub fn send_unit(
     ensures sent { OnOk result ((s : SystemState) (u : DataUnit) → ports.now ≡ s.attached.ports → Does (Send made.now) (Sends u)
         → u.first_position ≡ 0 → Appends u.made None out.old.items out.new.items (first_sent s u hop)) }
     ensures none { OnErr result (out.new.items ≡ out.old.items) }
+    ensures front { take (length out.old.items) out.new.items ≡ out.old.items }
 {
     let Some(hop) = hop else {
         return note(Reason::DestinationUnknown, out);
@@ -58,6 +59,7 @@ fn send_on(made: &Made, hop: Hop, port: &PortConfig, out: &mut Vec<Output>) -> R
     ensures sent { OnOk result ((u : DataUnit) → Does (Send made.now) (Sends u) → u.first_position ≡ 0
         → Appends u.made None out.old.items out.new.items (sent_on hop (Some port.now) u)) }
     ensures none { OnErr result (out.new.items ≡ out.old.items) }
+    ensures front { take (length out.old.items) out.new.items ≡ out.old.items }
 {
     let octets = made.body.bytes().len();
     match Cuts::new(made.head, octets, port.mtu) {
@@ -81,9 +83,10 @@ pub fn give_pieces(
     requires { AllByRecursion (IsCutOf body.now.len) cuts }
     ensures given { OnOk result (out.new.items ≡ out.old.items ++ map (transmission forwarded hop body.now) cuts) }
     ensures none { OnErr result (out.new.items ≡ out.old.items) }
+    ensures front { take (length out.old.items) out.new.items ≡ out.old.items }
 {
     let before = out.len();
-    if let Err(refused) = push_pieces(cuts, hop, body, forwarded, out) {
+    if let Err(refused) = push_pieces(cuts, &hop, body, forwarded, out) {
         out.truncate(before);
         return Err(refused);
     }
@@ -93,41 +96,53 @@ pub fn give_pieces(
 /// Appends the pieces of a PDU with these data; where memory is refused some of them stay.
 fn push_pieces(
     cuts: Cuts,
-    hop: Hop,
+    hop: &Hop,
     body: &View,
     forwarded: bool,
     out: &mut Vec<Output>,
 ) -> Result<(), NoMemory>
     requires { AllByRecursion (IsCutOf body.now.len) cuts }
-    ensures given { OnOk result (out.new.items ≡ out.old.items ++ map (transmission forwarded hop body.now) cuts) }
+    ensures given { OnOk result (out.new.items ≡ out.old.items ++ map (transmission forwarded hop.now body.now) cuts) }
     ensures front { OnErr result (take (length out.old.items) out.new.items ≡ out.old.items) }
 {
     for cut in cuts {
-        out.push(Output::Transmit(sending(&cut, hop, body, forwarded)?))?;
+        push_piece(&cut, hop, body, forwarded, out)?;
     }
     Ok(())
 }
 
-/// The frame of a piece of a PDU with these data.
-fn sending(cut: &Cut, hop: Hop, body: &View, forwarded: bool) -> Result<Sending, NoMemory>
+/// Appends a piece of a PDU with these data.
+fn push_piece(
+    cut: &Cut,
+    hop: &Hop,
+    body: &View,
+    forwarded: bool,
+    out: &mut Vec<Output>,
+) -> Result<(), NoMemory>
     requires { cut.now.from + cut.now.len ≤ body.now.len }
-    ensures { IfOk result (λ sending. Transmit sending ≡ transmission forwarded hop body.now cut.now) }
+    ensures given { OnOk result (out.new.items ≡ out.old.items ++ transmission forwarded hop.now body.now cut.now ∷ []) }
+    ensures none { OnErr result (out.new.items ≡ out.old.items) }
 {
-    Ok(Sending {
+    let data = body.part(cut.from, cut.len)?;
+    out.reserve(1)?;
+    out.push_reserved(Output::Transmit(Sending {
         port: hop.port,
         to: hop.target,
         head: cut.head.head(),
-        body: Some(body.part(cut.from, cut.len)?),
+        body: Some(data),
         forwarded,
-    })
+    }));
+    Ok(())
 }
 
 /// Notes that a unit is discarded for a reason, for which no place in it is told.
 fn note(reason: Reason, out: &mut Vec<Output>) -> Result<(), NoMemory>
     ensures noted { OnOk result (out.new.items ≡ out.old.items ++ Noted (Discard (reason_code reason) 0) ∷ []) }
     ensures none { OnErr result (out.new.items ≡ out.old.items) }
+    ensures front { take (length out.old.items) out.new.items ≡ out.old.items }
 {
     let reason = reason.code();
-    out.push(Output::Note(Note::Discard { reason, place: 0 }))?;
+    out.reserve(1)?;
+    out.push_reserved(Output::Note(Note::Discard { reason, place: 0 }));
     Ok(())
 }
