@@ -1,5 +1,5 @@
 -- What is given out for several actions, one after another.
-use Rattle.std.proofs.Common.{◌≡◌, ◌∙◌, refl, sym, ap, subst, ℕ, zero, suc, ◌<◌, List, [], ◌∷◌, ◌++◌, length, get_or, arith, None}
+use Rattle.std.proofs.Common.{◌≡◌, ◌∙◌, refl, sym, ap, subst, ℕ, zero, suc, ◌<◌, List, [], ◌∷◌, ◌++◌, length, take, get_or, arith, None}
 use Rattle.std.specs.List.{AllByRecursion, flat_map}
 use Rattle.std.proofs.lemmas.Grind.{flat_map-append}
 use Rattle.std.proofs.lemmas.List.{append-nil}
@@ -13,10 +13,22 @@ use Rattle.clnp_machine.specs.Given.{Appends}
 use Rattle.local_entity.specs.declared.action.Action.{Action}
 use Rattle.local_entity.specs.Local.{Does, DoAll}
 use Rattle.local_entity.specs.Local as local_entity
+use Rattle.esis_entity.specs.Does.{StaysInFront}
 use Rattle.system_entity.specs.Deeds.{IsFresh}
 use Rattle.system_entity.specs.State.{SystemEntityState}
 use Rattle.system_entity.specs.Stands.{PartsStandSince}
 pub use Rattle.clnp_machine.proofs.Given.{appends_both, appends_none, appends_note}
+
+-- outputs that stay in front of more, and of more behind that
+pub front_more : (before mid after : List Output) → StaysInFront before mid → StaysInFront mid after → StaysInFront before after
+front_more [] mid after first second = refl
+front_more (x ∷ before) [] after first second = absurd (cc)
+front_more (x ∷ before) (y ∷ mid) [] first second = absurd (cc)
+front_more (x ∷ before) (y ∷ mid) (z ∷ after) first second =
+    let here : take (length before) mid ≡ before = cc in
+    let there : take (length mid) after ≡ mid = cc in
+    let rest : take (length before) after ≡ before = front_more before mid after here there in
+    cc
 
 -- some actions of the model, and the last of them, apart
 pub record DoLast (actions : List Action) (action : Action) (others : List locally.Action) : Type 0 where

@@ -19,6 +19,7 @@ ghost use Rattle.clnp_machine.specs.Nsap.declared.target.Target.TheVariants.{Sys
 ghost use Rattle.clnp_machine.specs.Unit.{IsCarriable, Packet, DataUnit, value_of, wire};
 ghost use Rattle.clnp_machine.specs.ClnpViews.Extent.{part, whole};
 ghost use Rattle.clnp_machine.specs.Forwarding.Stands as routing;
+ghost use Rattle.esis_entity.specs.Does.{StaysInFront};
 ghost use Rattle.local_entity.specs.Local.{DoAll, Does, IsWhy};
 ghost use Rattle.local_entity.specs.Sending.{transmission};
 ghost use Rattle.clnp_machine.specs.Segmenter.Left.{IsCutOf};
@@ -188,13 +189,15 @@ impl SystemEntity {
     {
         laws::deeds_are_of_their_moment();
         laws::hellos_leave_the_rest();
-        let mut outputs = Vec::new(alloc);
         let mut actions = Vec::new(alloc);
         self.local
             .receive_pdu(alloc, self.moment, pdu, frame, &mut actions)?;
-        self.give_out(actions, &mut outputs)?;
-        self.respond(neighbour, group, &mut outputs)?;
-        out.append(&mut outputs)?;
+        let before = out.len();
+        self.give_out(actions, out)?;
+        if let Err(refused) = self.respond(neighbour, group, out) {
+            out.truncate(before);
+            return Err(refused);
+        }
         Ok(())
     }
 
@@ -205,9 +208,10 @@ impl SystemEntity {
         group: bool,
         out: &mut Vec<Output>,
     ) -> Result<(), NoMemory>
-        ensures { OnOk result ((s : SystemState) (p : Packet) → PartsStand self.now s → (p.lifetime == 0) ≡ false
+        ensures told { OnOk result ((s : SystemState) (p : Packet) → PartsStand self.now s → (p.lifetime == 0) ≡ false
             → is_own s p.unit.destination ≡ true
             → Appends s.moment None out.old.items out.new.items (responds s neighbour group p).outputs) }
+        ensures front { StaysInFront out.old.items out.new.items }
     {
         if !group {
             return Ok(());
@@ -280,12 +284,10 @@ impl SystemEntity {
     {
         laws::deeds_are_of_their_moment();
         has_content(frame);
-        let mut outputs = Vec::new(alloc);
         let mut actions = Vec::new(alloc);
         self.local
             .discard(alloc, self.moment, frame, reason, place, &mut actions)?;
-        self.give_out(actions, &mut outputs)?;
-        out.append(&mut outputs)?;
+        self.give_out(actions, out)?;
         Ok(())
     }
 
@@ -320,25 +322,27 @@ impl SystemEntity {
         laws::deeds_are_of_their_moment();
         let mut actions = Vec::new(alloc);
         let unit = self.local.make(alloc, self.moment, kind, from, to, body, ask, &mut actions)?;
-        let mut outputs = Vec::new(alloc);
-        let Ok(()) = self.give_out(actions, &mut outputs) else {
-            return Err(SendRefusal::NoMemory);
-        };
-        let Ok(()) = out.append(&mut outputs) else {
+        let Ok(()) = self.give_out(actions, out) else {
             return Err(SendRefusal::NoMemory);
         };
         Ok(unit)
     }
 
-    /// Gives out what was done at the system's addresses.
+    /// Gives out what was done at the system's addresses, or nothing.
     fn give_out(&self, actions: Vec<Action>, out: &mut Vec<Output>) -> Result<(), NoMemory>
         requires { (others : List locally.Action) × DoAll actions.items others }
-        ensures { OnOk result ((s : SystemState) (before : ℕ) (others : List locally.Action) → PartsStandSince before self.now s
+        ensures given { OnOk result ((s : SystemState) (before : ℕ) (others : List locally.Action) → PartsStandSince before self.now s
             → DoAll actions.items others → AllByRecursion (IsFresh s.moment) others
             → Appends s.moment None out.old.items out.new.items (flat_map (outputs_of s) others)) }
+        ensures none { OnErr result (out.new.items ≡ out.old.items) }
+        ensures front { StaysInFront out.old.items out.new.items }
     {
+        let before = out.len();
         for action in actions {
-            self.give(action, out)?;
+            if let Err(refused) = self.give(action, out) {
+                out.truncate(before);
+                return Err(refused);
+            }
         }
         Ok(())
     }
@@ -346,13 +350,15 @@ impl SystemEntity {
     /// Gives out one thing that was done.
     fn give(&self, action: Action, out: &mut Vec<Output>) -> Result<(), NoMemory>
         requires { (other : locally.Action) × Does action other }
-        ensures { OnOk result ((s : SystemState) (before : ℕ) (other : locally.Action) → PartsStandSince before self.now s
+        ensures given { OnOk result ((s : SystemState) (before : ℕ) (other : locally.Action) → PartsStandSince before self.now s
             → Does action other → IsFresh s.moment other
             → Appends s.moment None out.old.items out.new.items (outputs_of s other)) }
+        ensures front { StaysInFront out.old.items out.new.items }
     {
         match action {
             Action::Note(note) => {
-                out.push(Output::Note(note))?;
+                out.reserve(1)?;
+                out.push_reserved(Output::Note(note));
                 Ok(())
             }
             Action::Send(made) => { send_unit(&made, self.unit_hop(&made.to), self.ports(), out) }

@@ -94,7 +94,7 @@ returns-clause-outputs c = λ s h.
     let number : length t.attached.ports ≡ c.port_count-ports.result = ap length (sym stands.ports) ∙ sym c.port_count-ports.ensures in
     let done = all_done c.new-actions.result.items c.tick.new.out.items deed.actions c.new-actions.ensures.items (c.in_ok-tick.ensures.actions s parts.local) in
     let first = subst (λ (m : ℕ). Appends m None c.new-outputs.result.items c.give_out.new.out.items (effect_of deed).outputs) now
-    (c.in_ok-give_out.ensures t s.moment deed.actions stands done
+    (c.in_ok-give_out.ensures.given t s.moment deed.actions stands done
     (subst (λ (m : ℕ). AllByRecursion (IsFresh m) deed.actions) (sym now) (deed_is_fresh (at_moment c.args.now s) deed is))) in
     let second = c.in_ok-tick-3.ensures.outputs t s.moment stands.esis configuration number now (subst (λ (m : ℕ). s.moment ≤ m) now stands.since) in
     appends_fresh c.args.now c.new-outputs.result.items c.tick-2.new.out.items c.args.out.now.items c.append.new.self.items

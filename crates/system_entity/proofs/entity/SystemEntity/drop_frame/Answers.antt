@@ -7,7 +7,7 @@ use Rattle.clnp_machine.specs.Step.{effect_of}
 use Rattle.system_entity.specs.Deeds.{IsFresh}
 use Rattle.system_entity.specs.State.{SystemEntityState}
 use Rattle.system_entity.specs.Stands.{PartsStand}
-use Rattle.system_entity.proofs.Outputs.{all_done, appends_fresh}
+use Rattle.system_entity.proofs.Outputs.{all_done}
 use Rattle.system_entity.proofs.Parts.{deed_is_fresh, parts_after_deed, parts_now}
 use Rattle.system_entity.proofs.entity.SystemEntity.drop_frame.Goals as goal
 
@@ -38,8 +38,6 @@ returns-clause-outputs c = λ s content h carried frame.
     let done = all_done c.new-actions.result.items c.discard.new.out.items deed.actions c.new-actions.ensures.items
     (c.in_ok-discard.ensures.actions s content parts.local (sym parts.moment) carried frame) in
     let is = c.deeds_are_of_their_moment.ensures.discard s content c.args.reason c.args.place in
-    let given = subst (λ (m : ℕ). Appends m None c.new-outputs.result.items c.give_out.new.out.items (effect_of deed).outputs) is.moment
-    (c.in_ok-give_out.ensures deed.after deed.after.moment deed.actions (returns-clause-stands c s content h carried frame) done
-    (subst (λ (m : ℕ). AllByRecursion (IsFresh m) deed.actions) (sym is.moment) (deed_is_fresh s deed is))) in
-    appends_fresh s.moment c.new-outputs.result.items c.give_out.new.out.items c.args.out.now.items c.append.new.self.items _
-    c.new-outputs.ensures.items c.in_ok-append.ensures.items given
+    subst (λ (m : ℕ). Appends m None c.args.out.now.items c.give_out.new.out.items (effect_of deed).outputs) is.moment
+    (c.in_ok-give_out.ensures.given deed.after deed.after.moment deed.actions (returns-clause-stands c s content h carried frame) done
+    (subst (λ (m : ℕ). AllByRecursion (IsFresh m) deed.actions) (sym is.moment) (deed_is_fresh s deed is)))

@@ -28,8 +28,8 @@ unit_given s before after action made hop is way given (Sends u) does fresh =
 unit_given s before after action made hop is way given (Tells note) does fresh =
     absurd (subst (λ (one : Action). Does one (Tells note)) is does)
 
-pub returns-in-Send : goal.returns-in-Send
-returns-in-Send c =
+pub returns-in-Send-clause-given : goal.returns-in-Send-clause-given
+returns-in-Send-clause-given c =
     on_ok_weaker c.send_unit.result
     (λ given s before other h does fresh.
     unit_given s c.args.out.now.items c.send_unit.new.out.items c.args.action c.in-Send.made c.unit_hop.result c.in-Send.is

@@ -1,5 +1,9 @@
+use Rattle.esis_entity.specs.Does.{StaysInFront}
 use Rattle.system_entity.proofs.Outputs.{GivesOut}
 use Rattle.system_entity.proofs.entity.SystemEntity.give_out.Given as goal
 
 abbrev pub invariant-loop-action : goal.invariant-loop-action
-invariant-loop-action l = GivesOut l.self l.initial.out.items l.out.items l.yielded
+invariant-loop-action l = record {
+  given : GivesOut l.self l.initial.out.items l.out.items l.yielded;
+  front : StaysInFront l.initial.out.items l.out.items;
+}

@@ -7,7 +7,7 @@ use Rattle.clnp_machine.specs.Step.{effect_of}
 use Rattle.system_entity.specs.Deeds.{IsFresh}
 use Rattle.system_entity.specs.State.{SystemEntityState}
 use Rattle.system_entity.specs.Stands.{PartsStand}
-use Rattle.system_entity.proofs.Outputs.{all_done, appends_fresh}
+use Rattle.system_entity.proofs.Outputs.{all_done}
 use Rattle.system_entity.proofs.Parts.{deed_is_fresh, parts_after_deed, parts_now}
 use Rattle.system_entity.proofs.entity.SystemEntity.make_unit.Goals as goal
 
@@ -27,8 +27,6 @@ returns-clause-outputs c = λ s h.
     let done = all_done c.new-actions.result.items c.make.new.out.items deed.actions c.new-actions.ensures.items
     (c.in_ok-unit.ensures.actions s parts.local (sym parts.moment)) in
     let t = deed.after in
-    subst (λ (m : ℕ). Appends m None c.args.out.now.items c.append.new.self.items (effect_of deed).outputs) is.moment
-    (appends_fresh t.moment c.new-outputs.result.items c.give_out.new.out.items c.args.out.now.items c.append.new.self.items _
-    c.new-outputs.ensures.items c.in-Ok-append.ensures.items
-    (c.in-Ok.ensures t t.moment deed.actions (returns-clause-stands c s h) done
-    (subst (λ (m : ℕ). AllByRecursion (IsFresh m) deed.actions) (sym is.moment) (deed_is_fresh s deed is))))
+    subst (λ (m : ℕ). Appends m None c.args.out.now.items c.give_out.new.out.items (effect_of deed).outputs) is.moment
+    (c.in-Ok.ensures.given t t.moment deed.actions (returns-clause-stands c s h) done
+    (subst (λ (m : ℕ). AllByRecursion (IsFresh m) deed.actions) (sym is.moment) (deed_is_fresh s deed is)))

@@ -1,5 +1,5 @@
 -- What the entity does is given out, and then the answer to a group.
-use Rattle.std.proofs.Common.{◌≡◌, ◌∙◌, ℕ, true, sym, ap, subst, List, ◌++◌, None}
+use Rattle.std.proofs.Common.{◌≡◌, ◌∙◌, ℕ, true, sym, ap, subst, List, ◌++◌, take, None}
 use Rattle.std.specs.List.{AllByRecursion}
 use Rattle.clnp_machine.specs.ClnpPlan.Configuration.{SystemConfiguration}
 use Rattle.clnp_machine.specs.Given.{Appends}
@@ -11,7 +11,7 @@ use Rattle.system_entity.specs.Deeds.{IsFresh}
 use Rattle.system_entity.specs.Seen.{state_of}
 use Rattle.system_entity.specs.State.{SystemEntityState}
 use Rattle.system_entity.specs.Stands.{PartsStand}
-use Rattle.system_entity.proofs.Outputs.{all_done, appends_fresh, appends_both}
+use Rattle.system_entity.proofs.Outputs.{all_done, appends_both, front_more}
 use Rattle.system_entity.proofs.Packets.{frame_is, packet_carriable, packet_of}
 use Rattle.system_entity.proofs.Parts.{deed_is_fresh, parts_after_deed, parts_now}
 use Rattle.system_entity.proofs.Receipt.{received_after, received_outputs}
@@ -30,6 +30,12 @@ give_out-requires c =
           (c.in_ok-receive_pdu.ensures.actions s (packet_of v) rest parts.local (sym parts.moment) (packet_carriable v begins.spells.pdu)
           (frame_is c.args.frame.now v rest begins)),
     )
+
+pub returns-in-Err-clause-none : goal.returns-in-Err-clause-none
+returns-in-Err-clause-none c =
+    c.truncate.ensures.items
+    ∙ ap (λ (n : ℕ). take n c.respond.new.out.items) (c.len-before.ensures ∙ c.args.out.now.ok.0)
+    ∙ front_more c.args.out.now.items c.give_out.new.out.items c.respond.new.out.items c.give_out.ensures.front c.respond.ensures.front
 
 pub returns-clause-stands : goal.returns-clause-stands
 returns-clause-stands c = λ s p following h carriable frame alive own.
@@ -52,15 +58,13 @@ returns-clause-outputs c = λ s p following h carriable frame alive own.
     (c.in_ok-receive_pdu.ensures.stands s p following parts.local (sym parts.moment) carriable frame) parts) in
     let done = all_done c.new-actions.result.items c.receive_pdu.new.out.items deed.actions c.new-actions.ensures.items
     (c.in_ok-receive_pdu.ensures.actions s p following parts.local (sym parts.moment) carriable frame) in
-    let first = c.in_ok-give_out.ensures t t.moment deed.actions stands done
+    let first = c.in_ok-give_out.ensures.given t t.moment deed.actions stands done
     (subst (λ (m : ℕ). AllByRecursion (IsFresh m) deed.actions) (sym is.moment) (deed_is_fresh s deed is)) in
     let own_there : is_own t p.unit.destination ≡ true =
     ap (λ (x : SystemConfiguration). has_address x p.unit.destination) is.itself.configuration ∙ own in
-    let second = c.in_ok-respond.ensures t p stands alive own_there in
-    let all = appends_fresh t.moment c.new-outputs.result.items c.respond.new.out.items c.args.out.now.items c.append.new.self.items
-    ((effect_of deed).outputs ++ (responds t c.args.neighbour c.args.group p).outputs) c.new-outputs.ensures.items c.in_ok-append.ensures.items
-    (appends_both t.moment None c.new-outputs.result.items c.give_out.new.out.items c.respond.new.out.items (effect_of deed).outputs
-    (responds t c.args.neighbour c.args.group p).outputs first second) in
-    subst (λ (outputs : List Output). Appends s.moment None c.args.out.now.items c.append.new.self.items outputs)
+    let second = c.in_default.ensures.told t p stands alive own_there in
+    let all = appends_both t.moment None c.args.out.now.items c.give_out.new.out.items c.respond.new.out.items (effect_of deed).outputs
+    (responds t c.args.neighbour c.args.group p).outputs first second in
+    subst (λ (outputs : List Output). Appends s.moment None c.args.out.now.items c.respond.new.out.items outputs)
     (sym (received_outputs s p following c.args.neighbour c.args.group alive own))
-    (subst (λ (m : ℕ). Appends m None c.args.out.now.items c.append.new.self.items ((effect_of deed).outputs ++ (responds t c.args.neighbour c.args.group p).outputs)) is.moment all)
+    (subst (λ (m : ℕ). Appends m None c.args.out.now.items c.respond.new.out.items ((effect_of deed).outputs ++ (responds t c.args.neighbour c.args.group p).outputs)) is.moment all)

@@ -10,13 +10,13 @@ use Rattle.system_entity.proofs.Receipt.{alone_is_quiet, host_responds, router_i
 use Rattle.system_entity.proofs.entity.SystemEntity.respond.Goals as goal
 use Rattle.system_entity.proofs.Outputs.{appends_none}
 
-pub returns-then-not-group : goal.returns-then-not-group
-returns-then-not-group c = λ s p h alive own.
+pub returns-then-not-group-clause-told : goal.returns-then-not-group-clause-told
+returns-then-not-group-clause-told c = λ s p h alive own.
     subst (λ (e : Effect). Appends s.moment None c.args.out.now.items c.args.out.now.items e.outputs) (sym (alone_is_quiet s c.args.neighbour c.args.group p (search)))
     (appends_none s.moment None c.args.out.now.items c.args.out.now.items refl)
 
-pub returns-in-Host : goal.returns-in-Host
-returns-in-Host c =
+pub returns-in-Host-clause-told : goal.returns-in-Host-clause-told
+returns-in-Host-clause-told c =
     on_ok_weaker c.tell.result
     (λ told s p h alive own.
     let parts = subst (λ (e : SystemEntityState). PartsStand e s) (sym c.self.view_is) h in
@@ -25,8 +25,8 @@ returns-in-Host c =
     (told s s.moment parts.esis (sym parts.local.configuration ∙ sym c.config-in-Host.ensures)))
     c.tell.ensures.told
 
-pub returns-in-Router : goal.returns-in-Router
-returns-in-Router c = λ s p h alive own.
+pub returns-in-Router-clause-told : goal.returns-in-Router-clause-told
+returns-in-Router-clause-told c = λ s p h alive own.
     let parts = subst (λ (e : SystemEntityState). PartsStand e s) (sym c.self.view_is) h in
     let role = sym (ap (λ (x : SystemConfiguration). x.role) (c.config.ensures ∙ parts.local.configuration)) ∙ sym c.role.ensures ∙ c.in-Router.is in
     subst (λ (e : Effect). Appends s.moment None c.args.out.now.items c.args.out.now.items e.outputs) (sym (router_is_quiet s c.args.neighbour c.args.group p role))
