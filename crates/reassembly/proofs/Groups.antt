@@ -163,10 +163,10 @@ on_pages-map f (page ∷ pages) = ap (λ l. map f page ++ l) (on_pages-map f pag
 pub wanting-map : (f : Run → Run) (pages : List (List Run)) → wanting (map (map f) pages) ≡ wanting pages
 wanting-map f [] = refl
 wanting-map f (page ∷ pages) =
-    ap (λ n. (256 - n) + wanting (map (map f) pages)) (length-map page f) ∙ ap (λ n. (256 - length page) + n) (wanting-map f pages)
+    ap (λ n. (32 - n) + wanting (map (map f) pages)) (length-map page f) ∙ ap (λ n. (32 - length page) + n) (wanting-map f pages)
 
 -- the runs and what is wanting fill half of the pages
-half_filled : (pages : List (List Run)) → 256 * length pages ≤ length (on_pages pages) + wanting pages
+half_filled : (pages : List (List Run)) → 32 * length pages ≤ length (on_pages pages) + wanting pages
 half_filled [] = omega arith
 half_filled (page ∷ pages) = omega (arith, half_filled pages, length-append page (on_pages pages))
 
@@ -185,7 +185,7 @@ total-groups (count ∷ counts) pages all =
     omega arith
 
 few_pages : (counts : List ℕ) (pages : List (List Run)) → sum counts ≡ length pages → AllByRecursion IsDense (groups_of counts pages)
-    → 256 * length pages ≤ total_runs (map on_pages (groups_of counts pages)) + 256 * length counts
+    → 32 * length pages ≤ total_runs (map on_pages (groups_of counts pages)) + 32 * length counts
 few_pages [] [] all dense = omega arith
 few_pages [] (page ∷ pages) all dense = absurd (omega arith)
 few_pages (count ∷ counts) pages all dense =
@@ -210,7 +210,7 @@ module _ (counts : List ℕ) (pages : List (List Run)) (groups : List (List Run)
   pub number : total_runs groups ≡ length (on_pages pages)
   number = ap total_runs (sym groups_are) ∙ total-groups counts pages all
 
-  pub few : AllByRecursion IsDense (groups_of counts pages) → 256 * length pages ≤ total_runs groups + 256 * length counts
+  pub few : AllByRecursion IsDense (groups_of counts pages) → 32 * length pages ≤ total_runs groups + 32 * length counts
   few dense = omega (arith, few_pages counts pages all dense, ap total_runs groups_are)
 
   pub ends_within : (slot : ℕ) → slot < length groups → sum (take slot counts) + get_or counts slot 0 ≤ length pages
@@ -314,7 +314,7 @@ module _ (counts : List ℕ) (pages : List (List Run)) (groups : List (List Run)
     pub pushed_dense : AllByRecursion IsDense (groups_of counts pages) → AllByRecursion IsDense (groups_of counted after)
     pushed_dense dense =
         subst (AllByRecursion IsDense) (sym more_are)
-        (AllByRecursion-append IsDense (groups_of counts pages) ((page ∷ []) ∷ []) dense ((let e : wanting (page ∷ []) ≤ 256 = omega arith in e), tt))
+        (AllByRecursion-append IsDense (groups_of counts pages) ((page ∷ []) ∷ []) dense ((let e : wanting (page ∷ []) ≤ 32 = omega arith in e), tt))
 
   module _ (f : Run → Run) (after : List (List Run)) (after_is : after ≡ map (map f) pages) where
     maps_are : groups_of counts after ≡ map (map (map f)) (groups_of counts pages)

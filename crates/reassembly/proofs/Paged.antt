@@ -124,7 +124,7 @@ wanting_set [] at page new e more = absurd (cc)
 wanting_set (first ∷ others) zero page new e more = omega (arith, ap length (same_Some first page e), more)
 wanting_set (first ∷ others) (suc at) page new e more = omega (arith, wanting_set others at page new e more)
 
-wanting_two : (pages : List (List Run)) (at : ℕ) (page new second : List Run) → slice_get pages at ≡ Some page → 256 ≤ length new → 256 ≤ length second
+wanting_two : (pages : List (List Run)) (at : ℕ) (page new second : List Run) → slice_get pages at ≡ Some page → 32 ≤ length new → 32 ≤ length second
     → wanting (insert (slice_set pages at new) (suc at) second) ≤ wanting pages
 wanting_two [] at page new second e half rest = absurd (cc)
 wanting_two (first ∷ others) zero page new second e half rest = omega (arith, half, rest)
@@ -190,7 +190,7 @@ module _ (place at : ℕ) (pages : List (List Run)) (page : List Run) (order : A
           ap (λ n. on_pages (insert (slice_set pages at new) n second)) next ∙ on_two pages at page new second page_there
           ∙ ap (λ l. on_pages (take at pages) ++ (l ++ on_pages (drop (suc at) pages))) e ∙ sym cut_here
 
-      pub halves_dense : 256 ≤ length new → 256 ≤ length second → wanting (insert (slice_set pages at new) (at + 1) second) ≤ wanting pages
+      pub halves_dense : 32 ≤ length new → 32 ≤ length second → wanting (insert (slice_set pages at new) (at + 1) second) ≤ wanting pages
       halves_dense half rest =
           subst (λ n. wanting (insert (slice_set pages at new) n second) ≤ wanting pages) (sym next) (wanting_two pages at page new second page_there half rest)
 
@@ -313,7 +313,7 @@ module _ (place start count at : ℕ) (pages spare : List (List Run)) (page : Li
     }
 
     pub cut_halved : (new second : List Run) (after spare_after : List (List Run)) → after ≡ insert (slice_set pages (start + at) new) (start + at + 1) second
-        → new ++ second ≡ cut place page → 256 ≤ length new → 256 ≤ length second → length spare ≡ length spare_after + 1
+        → new ++ second ≡ cut place page → 32 ≤ length new → 32 ≤ length second → length spare ≡ length spare_after + 1
         → AreCut place start count (count + 1) pages spare after spare_after
     cut_halved new second after spare_after after_is is half rest less =
         let next : start + at + 1 ≡ start + (at + 1) = omega arith in

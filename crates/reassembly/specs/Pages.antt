@@ -28,10 +28,10 @@ IsApart from to runs = AllByRecursion (λ run. run.to ≤ from) runs ⊎ AllByRe
 -- how many runs the pages have less than half of what there is room for
 abbrev pub wanting : List (List Run) → ℕ
 wanting [] = 0
-wanting (page ∷ others) = (256 - length page) + wanting others
+wanting (page ∷ others) = (32 - length page) + wanting others
 
 abbrev pub IsDense : List (List Run) → Type 0
-IsDense pages = wanting pages ≤ 256
+IsDense pages = wanting pages ≤ 32
 
 -- The pages are those of the units, in their order, and there are pages for as many units and runs as there may be: where a
 -- unit has several, they are at least half full.
@@ -39,7 +39,7 @@ pub record ArePages (counts : List ℕ) (pages spare : List (List Run)) (slots r
   pub number : sum counts ≡ length pages
   pub dense : AllByRecursion IsDense (groups_of counts pages)
   pub few_units : length counts ≤ slots
-  pub enough : room + 256 * slots + 256 ≤ 256 * (length pages + length spare)
+  pub enough : room + 32 * slots + 32 ≤ 32 * (length pages + length spare)
   pub fit : length pages + length spare ≤ most
 
 -- a hole is cut on one of `count` pages from `start` on, which are `counted` then

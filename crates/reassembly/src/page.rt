@@ -11,7 +11,7 @@ use std::alloc::Global;
 use std::marker::Model;
 
 /// So many runs a page has room for. It never has as many: it is halved then.
-pub(crate) const PAGE: usize = 512;
+pub(crate) const PAGE: usize = 64;
 
 /// Runs of a unit that stand one behind the other.
 ///
@@ -29,7 +29,7 @@ impl Model for Page {
 
     ghost view = { λ p. p.runs.items };
 
-    ghost invariant = { λ p. (length p.runs.items < 512) × (512 ≤ vec_capacity p.runs) };
+    ghost invariant = { λ p. (length p.runs.items < 64) × (64 ≤ vec_capacity p.runs) };
 }
 
 impl Page {
@@ -113,8 +113,8 @@ impl Page {
         requires { AreInOrder self.old }
         ensures whole { result ≡ false → self.new ≡ cut place self.old }
         ensures halved { result ≡ true → self.new ++ other.new ≡ cut place self.old }
-        ensures first { result ≡ true → 256 ≤ length self.new }
-        ensures second { result ≡ true → 256 ≤ length other.new }
+        ensures first { result ≡ true → 32 ≤ length self.new }
+        ensures second { result ≡ true → 32 ≤ length other.new }
     {
         cut_hole(&mut self.runs, place);
         if self.runs.len() < PAGE {
@@ -217,11 +217,11 @@ fn cut_hole(runs: &mut Vec<Run>, place: u16)
 
 /// Moves the second half of the runs of a full page to another.
 fn halve(runs: &mut Vec<Run>, others: &mut Vec<Run>)
-    requires full { length runs.old.items ≡ 512 }
-    requires room { 512 ≤ vec_capacity others.old }
+    requires full { length runs.old.items ≡ 64 }
+    requires room { 64 ≤ vec_capacity others.old }
     ensures items { runs.new.items ++ others.new.items ≡ runs.old.items }
-    ensures first { length runs.new.items ≡ 256 }
-    ensures second { length others.new.items ≡ 256 }
+    ensures first { length runs.new.items ≡ 32 }
+    ensures second { length others.new.items ≡ 32 }
     ensures capacity { vec_capacity runs.new ≡ vec_capacity runs.old }
     ensures others_capacity { vec_capacity others.old ≤ vec_capacity others.new }
 {

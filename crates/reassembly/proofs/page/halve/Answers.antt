@@ -5,7 +5,7 @@ use Rattle.reassembly.proofs.page.halve.Goals as goal
 
 pub loop-at-init : goal.loop-at-init
 loop-at-init c = record {
-  runs = ap (λ l. take 256 c.args.runs.now.items ++ l) c.clear.ensures.items ∙ append-nil (take 256 c.args.runs.now.items);
+  runs = ap (λ l. take 32 c.args.runs.now.items ++ l) c.clear.ensures.items ∙ append-nil (take 32 c.args.runs.now.items);
   least = omega arith;
   most = omega arith;
   room = omega (arith, c.requires.room, c.clear.ensures.capacity);
@@ -18,8 +18,8 @@ unreachable-requires c =
     omega (
       arith,
       ap length l.runs,
-      length-append (take 256 c.args.runs.now.items) c.loop-at.others.items,
-      length-take 256 c.args.runs.now.items,
+      length-append (take 32 c.args.runs.now.items) c.loop-at.others.items,
+      length-take 32 c.args.runs.now.items,
       length-take c.loop-at.at c.args.runs.now.items,
       c.requires.full,
       c.loop-at-test.true,
@@ -34,8 +34,8 @@ loop-at-preserved c =
     let runs = c.args.runs.now.items in
     let run = c.index.result.now in
     record {
-      runs = ap (λ o. take 256 runs ++ o) c.in-Ok.ensures.items
-          ∙ sym (append_assoc (take 256 runs) c.loop-at.others.items (run ∷ []))
+      runs = ap (λ o. take 32 runs ++ o) c.in-Ok.ensures.items
+          ∙ sym (append_assoc (take 32 runs) c.loop-at.others.items (run ∷ []))
           ∙ ap (λ o. o ++ run ∷ []) l.runs
           ∙ ap (λ r. take c.loop-at.at runs ++ r ∷ []) c.index.ensures
           ∙ sym (take_more runs c.loop-at.at run (omega (arith, c.loop-at-test.true, c.requires.full)));
@@ -58,8 +58,8 @@ returns-clause-second c =
     omega (
       arith,
       ap length l.runs,
-      length-append (take 256 c.args.runs.now.items) c.loop-at.others.items,
-      length-take 256 c.args.runs.now.items,
+      length-append (take 32 c.args.runs.now.items) c.loop-at.others.items,
+      length-take 32 c.args.runs.now.items,
       length-take c.loop-at.at c.args.runs.now.items,
       c.requires.full,
       c.loop-at-test.false,
