@@ -297,6 +297,10 @@ fn ended_by(pages: &[Page], place: u16) -> usize
     ensures within { result ≤ length pages.now }
     ensures ended { AllByRecursion (λ run. run.to ≤ place) (on_pages (take result pages.now)) }
 {
+    // Most often the place is on the last of them.
+    if pages.len() > 1 && pages[pages.len() - 2].ends_by(place) {
+        return pages.len() - 1;
+    }
     let count = pages.partition_point(|page| page.ends_by(place));
     // What was found is compared: a page without runs would lead the search astray.
     if count > 0 && pages[count - 1].ends_by(place) {
