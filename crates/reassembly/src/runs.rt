@@ -316,6 +316,12 @@ fn begun_before(pages: &[Page], place: u16) -> usize
     ensures within { result ≤ length pages.now }
     ensures others { AllByRecursion (λ run. place ≤ run.from) (on_pages (drop result pages.now)) }
 {
+    let Some(last) = pages.last() else {
+        return 0;
+    };
+    if !last.begins_from(place) {
+        return pages.len();
+    }
     let count = pages.partition_point(|page| !page.begins_from(place));
     if count < pages.len() && pages[count].begins_from(place) {
         count

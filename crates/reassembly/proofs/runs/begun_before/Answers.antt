@@ -9,4 +9,4 @@ returns-then-begins_from-clause-others c =
     let pages = c.args.pages.now in
     let page = c.index-pages-count.result in
     pages_begun c.args.place count pages page c.requires (set_part pages count page c.if-count-pages.true c.index-pages-count.is)
-    (λ a b joined. c.begins_from.ensures a b c.if-begins_from.true joined)
+    (λ a b joined. c.begins_from-then-count-pages.ensures a b c.if-begins_from.true joined)
