@@ -7,6 +7,7 @@ ghost use Rattle.clnp_world.specs.Stands.{StandEach};
 
 use crate::copy::FrameCopy;
 use clnp_machine::clnp_base::NoMemory;
+use clnp_machine::system_plan::Output;
 use clnp_network::scenarios::{Scenario, Subnet};
 use clnp_systems::System;
 use std::alloc::Global;
@@ -33,6 +34,8 @@ pub(crate) struct Network {
     pub(crate) cursor: usize,
     /// The octets of all copies, and 64 for each.
     pub(crate) weight: u64,
+    /// Room for what a system gives out, which is made once.
+    pub(crate) outputs: Vec<Output>,
 }
 
 impl Network {
@@ -51,6 +54,7 @@ impl Network {
             copies: Vec::new(alloc),
             cursor: 0,
             weight: 0,
+            outputs: Vec::new(alloc),
         })
     }
 }

@@ -1,5 +1,5 @@
 //! What comes to the systems.
-ghost use Rattle.std.specs.Prelude.{◌≡◌, ◌≤◌, [], IfOk, OnOk, Some, slice_get, vec_len};
+ghost use Rattle.std.specs.Prelude.{◌≡◌, ◌≤◌, OnOk, Some, slice_get, vec_len};
 ghost use Rattle.clnp_machine.specs.Content.{Content};
 ghost use Rattle.clnp_network.specs.LabelledNetwork as network;
 ghost use Rattle.clnp_systems.specs.Stands.{entity_of};
@@ -13,12 +13,10 @@ use crate::copy::Origin;
 use crate::lines::LineSink;
 use clnp_machine::clnp_base::NoMemory;
 use clnp_machine::clnp_views::Frame;
-use clnp_machine::system_plan::{Ask, Output};
+use clnp_machine::system_plan::Ask;
 use clnp_systems::Input;
 use std::alloc::Global;
-
-/// Room for as many outputs is made before a frame comes to a system; most frames call for no more.
-const FEW_OUTPUTS: usize = 2;
+use std::mem;
 
 impl Network {
     /// Something comes to the system at a place, where there is one, and what the system gives out goes out. A frame that
@@ -45,19 +43,12 @@ impl Network {
         }
         // Its clause: what isn't forwarded is of a unit that the system itself made.
         clnp_machine::laws::first_transmissions_are_its_own();
-        let mut outputs = room_for(alloc, input)?;
+        let mut outputs = mem::replace(&mut self.outputs, Vec::new(alloc));
+        outputs.clear();
         self.systems[place].step(alloc, input, &mut outputs)?;
-        self.put_all_out(alloc, place, came, outputs, lines)
-    }
-}
-
-/// Room for what a system gives out of an input.
-fn room_for(alloc: Global, input: &Input<'_>) -> Result<Vec<Output>, NoMemory>
-    ensures { IfOk result (λ outputs. outputs.items ≡ []) }
-{
-    match input {
-        Input::Frame { .. } => Ok(Vec::with_capacity(alloc, FEW_OUTPUTS)?),
-        _ => Ok(Vec::new(alloc)),
+        self.put_all_out(alloc, place, came, &outputs, lines)?;
+        self.outputs = outputs;
+        Ok(())
     }
 }
 

@@ -34,19 +34,19 @@ impl Network {
         alloc: Global,
         place: usize,
         came: Origin,
-        outputs: Vec<Output>,
+        outputs: &[Output],
         lines: &mut L,
     ) -> Result<(), NoMemory>
         requires { place < vec_len self.old.systems }
         ensures puts { OnOk result ((model : network.LabelledNetwork) (system : SystemState) (content : Content) (others : List machine.Output)
             → Shows self.old model → slice_get model.systems place ≡ Some system → IsMadeWithUnit came content
-            → AllByRecursion (IsOwnWhereFirst system) others → GiveAll system.moment (Some content) outputs.items others
+            → AllByRecursion (IsOwnWhereFirst system) others → GiveAll system.moment (Some content) outputs.now others
             → Puts self.new (L.taken lines.old) (L.taken lines.new) (network.put_all_out system model others)) }
         ensures systems { self.new.systems ≡ self.old.systems }
         ensures clock { self.new.clock ≡ self.old.clock }
         ensures copies { vec_len self.old.copies ≤ vec_len self.new.copies }
     {
-        for output in &outputs {
+        for output in outputs {
             self.put_out(alloc, place, came, output, lines)?;
         }
         Ok(())

@@ -18,7 +18,7 @@ loop-output-init g c = record {
 
 pub loop-output-preserved : goal.loop-output-preserved
 loop-output-preserved g c =
-    let outputs = c.deref-output-items.result.now in
+    let outputs = c.args.outputs.now in
     let at = slice_get_read outputs _ c.loop-output.output-index c.output-item.result refl (omega arith) c.output-item.is in
     let one = take_push outputs c.loop-output.output-index c.output-item.result at in
     record {
@@ -33,7 +33,7 @@ loop-output-preserved g c =
 
 pub returns-clause-puts : goal.returns-clause-puts
 returns-clause-puts g c = λ model system content others h there born own gives.
-    let outputs = c.deref-output-items.result.now in
+    let outputs = c.args.outputs.now in
     let all : take c.loop-output.output-index outputs ≡ outputs = take_all c.loop-output.output-index outputs c.loop-output-test.false in
     c.loop-output.invariant.puts model system content others h there born own
-    (subst (λ (given : List Output). GiveAll system.moment (Some content) given others) (sym (all ∙ c.deref-output-items.ensures.value)) gives)
+    (subst (λ (given : List Output). GiveAll system.moment (Some content) given others) (sym all) gives)
