@@ -1,12 +1,14 @@
 -- Where a key is in a rising list, or would go.
-use Rattle.std.proofs.Common.{◌≡◌, ℕ, zero, suc, ◌+◌, ◌<◌, ◌≤◌, true, false, not, List, [], ◌∷◌, None, Some, refl, sym, ap, subst, ◌∙◌, arith, inl, inr, length, slice_get, slice_set, get_or, insert, remove}
+use Rattle.std.proofs.Common.{◌≡◌, ℕ, zero, suc, ◌+◌, ◌<◌, ◌≤◌, true, false, not, List, [], ◌∷◌, Option, None, Some, refl, sym, ap, subst, ◌∙◌, arith, inl, inr, length, slice_get, slice_set, get_or, insert, remove}
 use Rattle.std.proofs.lemmas.Cmp.{nat_list_cmp_total}
 use Rattle.std.proofs.lemmas.Bool.{cases_order}
-use Rattle.std.proofs.lemmas.Option.{get_or_from_slice_get, same_Some, slice_get-get_or, slice_get_within}
+use Rattle.std.proofs.lemmas.Option.{get_or_from_slice_get, none-some, same_Some, slice_get-get_or, slice_get_within}
 use Rattle.std.specs.Cmp.Lexicographic.{slice_cmp}
 use Rattle.std.specs.List.{AllByRecursion, AllWithin, filter, find}
+use Rattle.std.specs.Option.{option_map}
 use Rattle.std.specs.Ordering.{nat_cmp, is_lt, ordering_reverse}
 use Rattle.std.specs.Str.{bytes_eq}
+use Rattle.std.specs.declared.cmp.Ordering.{Ordering}
 use Rattle.std.specs.declared.cmp.Ordering.TheVariants.{Less, Equal, Greater}
 use Rattle.esis_tables.specs.declared.table.Entry.{Entry}
 use Rattle.esis_tables.specs.Order.{is_before, put_in, IsRising}
@@ -139,20 +141,37 @@ between_all entries key = record {
   behind = λ k d from below. absurd (omega (arith, from, below));
 }
 
-module _ (entries : List Entry) (key : List ℕ) (low high middle : ℕ) (entry : Entry) (there : slice_get entries middle ≡ Some entry) where
+-- the entry of which a key is told
+entry_with : (option : Option Entry) (key : List ℕ) → option_map key_in option ≡ Some key → (entry : Entry) × (option ≡ Some entry) × (entry.key ≡ key)
+entry_with None key told = absurd (none-some key told)
+entry_with (Some entry) key told = (entry, refl, same_Some entry.key key told)
+
+module _ (entries : List Entry) (key : List ℕ) (low high middle : ℕ) (its_key : List ℕ) (told : option_map key_in (slice_get entries middle) ≡ Some its_key) where
+  its_entry : (entry : Entry) × (slice_get entries middle ≡ Some entry) × (entry.key ≡ its_key)
+  its_entry = entry_with (slice_get entries middle) its_key told
+
+  abbrev entry : Entry
+  entry = its_entry.0
+
+  there : slice_get entries middle ≡ Some entry
+  there = its_entry.1
+
+  compared : (result : Ordering) → slice_cmp nat_cmp its_key key ≡ result → slice_cmp nat_cmp entry.key key ≡ result
+  compared result same = ap (λ (k : List ℕ). slice_cmp nat_cmp k key) its_entry.2 ∙ same
+
   -- the entry at a place that is the middle one
   read_middle : (k : ℕ) (d : Entry) → k ≡ middle → get_or entries k d ≡ entry
   read_middle k d same = ap (λ (n : ℕ). get_or entries n d) same ∙ get_or_from_slice_get entries middle entry d there
 
-  pub found_middle : slice_cmp nat_cmp entry.key key ≡ Equal → IsAt entries key middle
-  found_middle equal = record { entry = entry; stands_at = there; is_its = same_from_equal entry.key key equal }
+  pub found_middle : slice_cmp nat_cmp its_key key ≡ Equal → IsAt entries key middle
+  found_middle equal = record { entry = entry; stands_at = there; is_its = same_from_equal entry.key key (compared Equal equal) }
 
-  pub above_middle : slice_cmp nat_cmp entry.key key ≡ Less → (IsRising key_in entries → IsBetween entries key low high)
+  pub above_middle : slice_cmp nat_cmp its_key key ≡ Less → (IsRising key_in entries → IsBetween entries key low high)
       → IsRising key_in entries → IsBetween entries key (middle + 1) high
   above_middle less between rising = record { before = all_before; behind = (between rising).behind }
     where
       its : is_before entry.key key ≡ true
-      its = ap is_lt less
+      its = ap is_lt (compared Less less)
 
       all_before : AllWithin (λ e. is_before e.key key ≡ true) entries 0 (middle + 1)
       all_before k d from below =
@@ -165,12 +184,12 @@ module _ (entries : List Entry) (key : List ℕ) (low high middle : ℕ) (entry 
             | inr (inr behind) ↦ absurd (omega (arith, below, behind))
           ]
 
-  pub below_middle : slice_cmp nat_cmp entry.key key ≡ Greater → (IsRising key_in entries → IsBetween entries key low high)
+  pub below_middle : slice_cmp nat_cmp its_key key ≡ Greater → (IsRising key_in entries → IsBetween entries key low high)
       → IsRising key_in entries → IsBetween entries key low middle
   below_middle greater between rising = record { before = (between rising).before; behind = all_behind }
     where
       its : is_before key entry.key ≡ true
-      its = ap is_lt (nat_list_cmp_total.antisymm key entry.key ∙ ap ordering_reverse greater)
+      its = ap is_lt (nat_list_cmp_total.antisymm key entry.key ∙ ap ordering_reverse (compared Greater greater))
 
       all_behind : AllWithin (λ e. is_before key e.key ≡ true) entries middle (length entries)
       all_behind k d from below =

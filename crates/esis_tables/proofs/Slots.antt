@@ -1,11 +1,15 @@
 -- What stands in the slots of a list, where one comes, goes or is filled anew.
-use Rattle.std.proofs.Common.{◌≡◌, ◌≢◌, ◌∙◌, sym, ap, refl, ℕ, zero, suc, ◌<◌, ◌≤◌, Bool, true, List, [], ◌∷◌, length, Option, Some, None, is_some, cond, count_by, inl, inr, arith}
+use Rattle.std.proofs.Common.{◌≡◌, ◌≢◌, ◌∙◌, sym, ap, refl, subst, ℕ, zero, suc, ◌<◌, ◌≤◌, Bool, true, List, [], ◌∷◌, length, Option, Some, None, is_some, cond, count_by, inl, inr, arith}
 use Rattle.std.specs.Prelude.{slice_get, slice_index_or, slice_set}
 use Rattle.std.specs.List.{AllByRecursion, cons_option, filter_map, insert, remove}
+use Rattle.std.specs.Option.{option_map}
 use Rattle.std.proofs.lemmas.Bool.{cases_eq, false≢true}
 use Rattle.std.proofs.lemmas.List.Sums.{sum_by-set}
-use Rattle.std.proofs.lemmas.Option.{none-some, same_Some}
-use Rattle.esis_tables.specs.Slots.{AreApart}
+use Rattle.std.proofs.lemmas.Option.{get_or_from_slice_get, none-some, same_Some, slice_get_within}
+use Rattle.slab.specs.Slab.{ContainsKey, Slab, get}
+use Rattle.esis_tables.specs.declared.table.Entry.{Entry}
+use Rattle.esis_tables.specs.Slots.{AreApart, AreKeysOf, entries_in}
+use Rattle.esis_tables.specs.State.{key_in}
 use Rattle.esis_tables.proofs.Keeping.{all_insert, all_remove}
 use Rattle.nsap.proofs.ClnpBase.Lists.{AllByRecursion-both, AllByRecursion-implies, AllByRecursion-slice_get}
 
@@ -171,3 +175,65 @@ module _ {X : Type 0} (old : ℕ → Option X) where
         let same = others_stay first (other_than_first first place others apart.0 e) in
         let rest = list-set others place x apart.1 taken.1 e here in
         (λ i. cons_option (same i) (rest i)) ∙ sym (set-cons_option (old first) (filter_map old others) place x taken.0)
+
+-- ---- keys beside the entries
+
+-- a slot is another one, and its key is noted
+pub keys_again : (old new : Slab Entry) (before after : List (List ℕ)) (slot : ℕ)
+    → ((other : ℕ) → other ≢ slot → get new other ≡ get old other)
+    → ((entry : Entry) → get new slot ≡ Some entry → slice_get after slot ≡ Some entry.key)
+    → ((other : ℕ) (key : List ℕ) → other ≢ slot → slice_get before other ≡ Some key → slice_get after other ≡ Some key)
+    → AreKeysOf old before → AreKeysOf new after
+keys_again old new before after slot others_stay here others keys other entry there =
+    elim (cases_eq other slot) [
+      | inl same ↦ subst (λ (s : ℕ). slice_get after s ≡ Some entry.key) (sym same) (here entry (ap (get new) (sym same) ∙ there))
+      | inr differs ↦ others other entry.key differs (keys other entry (sym (others_stay other differs) ∙ there))
+    ]
+
+-- where a slot gets an entry, with its key
+pub keys_with : (old new : Slab Entry) (before after : List (List ℕ)) (slot : ℕ) (entry : Entry)
+    → ((other : ℕ) → other ≢ slot → get new other ≡ get old other) → get new slot ≡ Some entry → slice_get after slot ≡ Some entry.key
+    → ((other : ℕ) (key : List ℕ) → other ≢ slot → slice_get before other ≡ Some key → slice_get after other ≡ Some key)
+    → AreKeysOf old before → AreKeysOf new after
+keys_with old new before after slot entry others_stay there noted =
+    keys_again old new before after slot others_stay
+    (λ other same. noted ∙ ap (λ (e : Entry). Some e.key) (same_Some entry other (sym there ∙ same)))
+
+-- where a slot is free then
+pub keys_without : (old new : Slab Entry) (keys : List (List ℕ)) (slot : ℕ)
+    → ((other : ℕ) → other ≢ slot → get new other ≡ get old other) → get new slot ≡ None → AreKeysOf old keys → AreKeysOf new keys
+keys_without old new keys slot others_stay free =
+    keys_again old new keys keys slot others_stay (λ entry there. absurd (none-some entry (sym free ∙ there))) (λ other key differs same. same)
+
+-- the key at a slot is that of the entry at its place
+pub key_there : (entries : Slab Entry) (keys : List (List ℕ)) (slots : List ℕ) (place slot : ℕ) (key : List ℕ)
+    → AllByRecursion (ContainsKey entries) slots → AreKeysOf entries keys → slice_get slots place ≡ Some slot
+    → key ≡ slice_index_or keys slot key → option_map key_in (slice_get (entries_in entries slots) place) ≡ Some key
+key_there entries keys slots place slot key taken beside at read =
+    let there = value_there (get entries slot) (AllByRecursion-slice_get (ContainsKey entries) slots place slot at taken) in
+    let noted = beside slot there.0 there.1 in
+    let same = get_or_from_slice_get keys slot there.0.key key noted in
+    ap (option_map key_in) (list_at (get entries) slots place slot taken at ∙ there.1)
+    ∙ ap Some (sym (read ∙ same))
+
+-- the slot of each place has a key
+pub key_within : (entries : Slab Entry) (keys : List (List ℕ)) (slots : List ℕ) (place slot : ℕ)
+    → AllByRecursion (ContainsKey entries) slots → AreKeysOf entries keys → slice_get slots place ≡ Some slot → slot < length keys
+key_within entries keys slots place slot taken beside at =
+    let there = value_there (get entries slot) (AllByRecursion-slice_get (ContainsKey entries) slots place slot at taken) in
+    slice_get_within keys slot there.0.key (beside slot there.0 there.1)
+
+-- one key is written
+pub key_set_others : (keys : List (List ℕ)) (slot : ℕ) (key : List ℕ) (other : ℕ) (kept : List ℕ) → other ≢ slot
+    → slice_get keys other ≡ Some kept → slice_get (slice_set keys slot key) other ≡ Some kept
+key_set_others [] slot key other kept differs there = there
+key_set_others (first ∷ others) zero key zero kept differs there = absurd (differs refl)
+key_set_others (first ∷ others) zero key (suc other) kept differs there = there
+key_set_others (first ∷ others) (suc slot) key zero kept differs there = there
+key_set_others (first ∷ others) (suc slot) key (suc other) kept differs there =
+    key_set_others others slot key other kept (λ same. differs (ap suc same)) there
+
+pub key_set_here : (keys : List (List ℕ)) (slot : ℕ) (key : List ℕ) → slot < length keys → slice_get (slice_set keys slot key) slot ≡ Some key
+key_set_here [] slot key within = absurd (omega (arith, within))
+key_set_here (first ∷ others) zero key within = refl
+key_set_here (first ∷ others) (suc slot) key within = key_set_here others slot key (omega (arith, within))

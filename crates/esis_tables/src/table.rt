@@ -184,6 +184,14 @@ impl Table {
         self.slots.at(place)
     }
 
+    /// The key of the entry at a place.
+    fn key_at(&self, place: usize) -> &Address
+        requires { place < length self.now.entries }
+        ensures { option_map key_in (slice_get self.now.entries place) ≡ Some result.now }
+    {
+        self.slots.key_at(place)
+    }
+
     /// A number above those of all entries.
     ///
     /// Numbers rise by one with each hearing. Where the last one that fits was given, after 2^64 hearings, the entries are
@@ -338,7 +346,7 @@ impl Table {
         ensures absent { IsRising key_in self.now.entries → IfErr result (IsGap self.now.entries key.now) }
     {
         let near = self.hints.place_at(hint);
-        if near < usize::from(self.len()) && self.at(near).key == *key {
+        if near < usize::from(self.len()) && *self.key_at(near) == *key {
             return Ok(near);
         }
         self.search(near, key)
@@ -354,7 +362,7 @@ impl Table {
         let mut high = usize::from(self.len());
         while low < high {
             let place = place_between(low, high, near);
-            match self.at(place).key.cmp(key) {
+            match self.key_at(place).cmp(key) {
                 Ordering::Less => low = place + 1,
                 Ordering::Equal => return Ok(place),
                 Ordering::Greater => high = place,

@@ -2,8 +2,8 @@ use Rattle.std.proofs.Common.{◌≡◌, ◌∙◌, ℕ, arith, length, subst, s
 use Rattle.esis_tables.proofs.Places.{IsBetween, above_middle, below_middle, between_all, found_middle, gap_between}
 use Rattle.esis_tables.proofs.table.Table.search.Goals as goal
 
-pub at-requires : goal.at-requires
-at-requires c = omega (arith, c.loop-low.invariant.0, c.loop-low.invariant.1, c.loop-low-test.true)
+pub key_at-requires : goal.key_at-requires
+key_at-requires c = omega (arith, c.loop-low.invariant.0, c.loop-low.invariant.1, c.loop-low-test.true)
 
 pub loop-low-init : goal.loop-low-init
 loop-low-init c =
@@ -16,7 +16,7 @@ loop-low-preserved-in-Less c =
     let l = c.loop-low in (
       omega (arith, c.loop-low-test.true),
       l.invariant.1,
-      above_middle c.args.self.now.entries c.args.key.now l.low l.high _ c.at.result.now c.at.ensures (sym c.cmp.ensures ∙ c.in-Less.is) l.invariant.2,
+      above_middle c.args.self.now.entries c.args.key.now l.low l.high _ c.key_at.result.now c.key_at.ensures (sym c.cmp.ensures ∙ c.in-Less.is) l.invariant.2,
     )
 
 pub loop-low-preserved : goal.loop-low-preserved
@@ -24,13 +24,13 @@ loop-low-preserved c =
     let l = c.loop-low in (
       omega (arith, c.loop-low-test.true),
       omega (arith, l.invariant.1, c.loop-low-test.true),
-      below_middle c.args.self.now.entries c.args.key.now l.low l.high _ c.at.result.now c.at.ensures (sym c.cmp.ensures ∙ c.in-Greater.is) l.invariant.2,
+      below_middle c.args.self.now.entries c.args.key.now l.low l.high _ c.key_at.result.now c.key_at.ensures (sym c.cmp.ensures ∙ c.in-Greater.is) l.invariant.2,
     )
 
 pub returns-in-Equal-clause-found : goal.returns-in-Equal-clause-found
 returns-in-Equal-clause-found c =
     let l = c.loop-low in
-    found_middle c.args.self.now.entries c.args.key.now l.low l.high _ c.at.result.now c.at.ensures (sym c.cmp.ensures ∙ c.in-Equal.is)
+    found_middle c.args.self.now.entries c.args.key.now l.low l.high _ c.key_at.result.now c.key_at.ensures (sym c.cmp.ensures ∙ c.in-Equal.is)
 
 pub returns-clause-absent : goal.returns-clause-absent
 returns-clause-absent c rising =

@@ -1,9 +1,9 @@
 -- The slot was free.
-use Rattle.std.proofs.Common.{◌≤◌, ◌∙◌, ap, arith, length, is_some}
+use Rattle.std.proofs.Common.{◌≤◌, ◌∙◌, ap, arith, length, is_some, sym}
 use Rattle.std.specs.List.{insert}
 use Rattle.std.proofs.lemmas.List.Edits.{length-insert}
 use Rattle.slab.specs.Slab.{get}
-use Rattle.esis_tables.proofs.Slots.{AreApart-insert, all_differ, length-list, list-insert, taken-insert}
+use Rattle.esis_tables.proofs.Slots.{AreApart-insert, all_differ, keys_with, length-list, list-insert, taken-insert}
 use Rattle.esis_tables.proofs.table.slots.Slots.put.Goals as goal
 
 pub insert_reserved-slot-requires : goal.insert_reserved-slot-requires
@@ -18,6 +18,11 @@ insert_reserved-slot-requires c =
       c.self.invariant.0.number,
       c.self.invariant.3,
     )
+
+pub write_key-requires : goal.write_key-requires
+write_key-requires c =
+    let insert = c.insert_reserved-slot in
+    omega (arith, c.from.ensures, insert.ensures.key_in_range, insert.ensures.capacity, c.self.invariant.7)
 
 pub insert-requires : goal.insert-requires
 insert-requires c =
@@ -57,6 +62,10 @@ invariant_of-self c =
       omega (arith, insert.ensures.capacity, c.self.invariant.3),
       omega (arith, c.in-Ok.ensures.capacity, c.self.invariant.4),
       omega (arith, insert.ensures.capacity, c.self.invariant.5),
+      keys_with t.entries insert.new.self t.keys.items c.write_key.new.keys.items c.from.result c.args.entry
+          (λ other differs. insert.ensures.updates.others other (λ same. differs (same ∙ sym c.from.ensures)))
+          (ap (get insert.new.self) c.from.ensures ∙ insert.ensures.updates.changed) c.write_key.ensures.there c.write_key.ensures.others c.self.invariant.6,
+      omega (arith, insert.ensures.capacity, c.self.invariant.7, c.write_key.ensures.capacity),
     )
 
 pub returns-clause-entries : goal.returns-clause-entries

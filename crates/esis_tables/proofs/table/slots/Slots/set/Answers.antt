@@ -7,7 +7,7 @@ use Rattle.std.proofs.lemmas.List.{get_or-set_other, get_or-set_same}
 use Rattle.std.proofs.lemmas.Option.{slice_get_read}
 use Rattle.slab.specs.Slab.{ContainsKey, get, with_value}
 use Rattle.nsap.proofs.ClnpBase.Lists.{AllByRecursion-slice_get}
-use Rattle.esis_tables.proofs.Slots.{length-list, list-set, number_again, slot_within, taken-set}
+use Rattle.esis_tables.proofs.Slots.{key_set_here, key_set_others, key_within, keys_with, length-list, list-set, number_again, slot_within, taken-set}
 use Rattle.esis_tables.proofs.table.slots.Slots.set.Goals as goal
 
 pub index-requires : goal.index-requires
@@ -25,6 +25,16 @@ unreachable-requires c =
     = slice_get_read t.order.items (length t.order.items) c.args.place c.index.result.now refl within c.index.ensures ∙ ap Some (sym c.from-slot.ensures) in
     let taken = AllByRecursion-slice_get (ContainsKey t.entries) t.order.items c.args.place slot at c.self.invariant.0.taken in
     false≢true (sym (ap (λ r. is_some (option_copied_mut r)) c.in_default.is) ∙ ap is_some c.get_mut.follows ∙ taken)
+
+pub index_mut-requires : goal.index_mut-requires
+index_mut-requires c =
+    let t = c.self.inside in
+    let within : c.args.place < length t.order.items
+    = omega (arith, c.requires, length-list (get t.entries) t.order.items c.self.invariant.0.taken, ap (λ v. length v.entries) c.self.view_is) in
+    let slot = c.from-slot.result in
+    let at : slice_get t.order.items c.args.place ≡ Some slot
+    = slice_get_read t.order.items (length t.order.items) c.args.place c.index.result.now refl within c.index.ensures ∙ ap Some (sym c.from-slot.ensures) in
+    omega (arith, key_within t.entries t.keys.items t.order.items c.args.place slot c.self.invariant.0.taken c.self.invariant.6 at)
 
 pub invariant_of-self : goal.invariant_of-self
 invariant_of-self c =
@@ -50,6 +60,10 @@ invariant_of-self c =
       c.self.invariant.3,
       c.self.invariant.4,
       c.self.invariant.5,
+      keys_with t.entries new t.keys.items (slice_set t.keys.items slot c.args.entry.key) slot c.args.entry others here
+          (key_set_here t.keys.items slot c.args.entry.key (key_within t.entries t.keys.items t.order.items c.args.place slot c.self.invariant.0.taken c.self.invariant.6 at))
+          (key_set_others t.keys.items slot c.args.entry.key) c.self.invariant.6,
+      c.self.invariant.7,
     )
 
 pub returns-clause-entries : goal.returns-clause-entries

@@ -6,7 +6,7 @@ use Rattle.std.proofs.lemmas.List.Edits.{length-remove}
 use Rattle.std.proofs.lemmas.Option.{slice_get_read}
 use Rattle.slab.specs.Slab.{ContainsKey, get}
 use Rattle.nsap.proofs.ClnpBase.Lists.{AllByRecursion-slice_get}
-use Rattle.esis_tables.proofs.Slots.{AreApart-remove, length-list, list-remove, list_at, taken-remove}
+use Rattle.esis_tables.proofs.Slots.{AreApart-remove, keys_without, length-list, list-remove, list_at, taken-remove}
 use Rattle.esis_tables.proofs.table.slots.Slots.take_out.Goals as goal
 
 pub remove-slot-requires : goal.remove-slot-requires
@@ -45,6 +45,8 @@ invariant_of-self c =
       omega (arith, c.remove.ensures.capacity, c.self.invariant.3),
       omega (arith, c.remove-slot.ensures.capacity, c.self.invariant.4),
       omega (arith, c.remove.ensures.capacity, c.self.invariant.5),
+      keys_without t.entries c.remove.new.self t.keys.items slot c.remove.ensures.updates.others c.remove.ensures.updates.changed c.self.invariant.6,
+      omega (arith, c.remove.ensures.capacity, c.self.invariant.7),
     )
 
 pub returns-clause-entry : goal.returns-clause-entry
