@@ -1,9 +1,9 @@
 ghost use Rattle.std.specs.Prelude.{◌≡◌};
 ghost use Rattle.scenario.specs.ClnpPlan.Configuration.{IsPort};
 
-use scenario::forwarding::Route;
-use scenario::nsap::{Address, Prefix, Snpa, Target};
-use scenario::pdu_header::Kind;
+use scenario::clnp::Kind;
+use scenario::nsaps::{Address, Prefix, Snpa, Target};
+use scenario::routing::Route;
 use scenario::system_plan::{
     Note, PortConfig, Role, Settings, SystemConfig, Why, journal_text, late_text, push_end,
     transmission_text, void_text,

@@ -1,5 +1,5 @@
-use scenario::esis_tables::{EsisLimits, Gone, Heard, Neighbour, TableKind, Tables};
-use scenario::nsap::{Address, Snpa};
+use scenario::hearing::{EsisLimits, Gone, Heard, Neighbour, TableKind, Tables};
+use scenario::nsaps::{Address, Snpa};
 use std::alloc::Global;
 use std::process::Abort;
 

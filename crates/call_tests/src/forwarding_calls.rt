@@ -1,5 +1,5 @@
-use scenario::forwarding::{Route, RouteRefusal, Routes};
-use scenario::nsap::{Address, Prefix, Snpa};
+use scenario::nsaps::{Address, Prefix, Snpa};
+use scenario::routing::{Route, RouteRefusal, Routes};
 use std::alloc::Global;
 use std::process::Abort;
 

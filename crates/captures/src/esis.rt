@@ -9,7 +9,7 @@ ghost use Rattle.captures.specs.EsisShown.{ShowsOther, addresses_text, body_text
 
 use crate::words::{push_octets, push_options, push_pair};
 use esis_pdus::clnp_base::{NoMemory, push, push_number};
-use esis_pdus::nsap::Address;
+use esis_pdus::nsaps::Address;
 use esis_pdus::{AddressList, EsisBody, EsisPdu, EsisRefusal, decode};
 
 /// Appends the text of a frame that doesn't begin with 0x81.

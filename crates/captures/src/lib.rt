@@ -12,9 +12,8 @@ mod words;
 
 pub use capture::{LineRefusal, MOST_OCTETS};
 pub use digits::push_spelled;
-pub use esis_pdus;
-pub use esis_pdus::clnp_base;
 pub use esis_pdus::clnp_base::is_skipped;
+pub use esis_pdus::{clnp_base, clnp_options, clnp_views, fletcher, nsaps};
 pub use single::{check_line, read_capture, show_line};
 pub use vector::Verdict;
 
@@ -23,4 +22,14 @@ pub mod many {
     pub use crate::capture::read_capture;
     pub use crate::line::show_line;
     pub use crate::vector::check_line;
+}
+
+/// CLNP PDUs.
+pub mod clnp {
+    pub use esis_pdus::clnp::{Header, Kind, Parts, decode, encode};
+}
+
+/// ES-IS PDUs.
+pub mod esis_values {
+    pub use esis_pdus::{HelloRefusal, decode, encode, esh, ish, laws, rd};
 }

@@ -503,7 +503,7 @@ pub fn discards_are_reported_as_wanted()
         → value_of (whole_packet (report_unit s own frame reason place))
         ≡ report_of frame own reason place s.configuration.settings.life s.configuration.settings.sealed }
 {
-    clnp_plan::pdu_header::laws::reportable_where_wanted();
+    clnp_plan::clnp::laws::reportable_where_wanted();
 }
 
 /// An error report that is made in a step in which no octets come that spell no PDU is that of a packet
@@ -613,7 +613,7 @@ pub fn octets_have_a_content()
 pub fn a_frame_carries_one_packet()
     ensures { CarriesOnePacket }
 {
-    clnp_plan::pdu_header::laws::one_value();
+    clnp_plan::clnp::laws::one_value();
 }
 
 /// A frame that carries a packet that a PDU can carry breaks no rule of PDUs, whatever follows in it.
@@ -642,7 +642,7 @@ pub fn no_frame_is_of_both_protocols()
     ensures esis { (value : EsisValue) (following : List ℕ) → IsPdu value
         → octet (spelling value ++ following) 1 ≡ 0x82 }
 {
-    clnp_plan::pdu_header::laws::spelled_where_no_rule_is_broken();
+    clnp_plan::clnp::laws::spelled_where_no_rule_is_broken();
     esis_pdus::laws::spelled_where_no_rule_is_broken();
 }
 
@@ -652,5 +652,5 @@ fn laws_of_edits()
 {
     clnp_plan::clnp_options::laws::edits_keep_the_form();
     clnp_plan::clnp_options::laws::edits_keep_options_formed();
-    clnp_plan::pdu_header::laws::edited_pdus_are_pdus();
+    clnp_plan::clnp::laws::edited_pdus_are_pdus();
 }

@@ -6,13 +6,16 @@ pub mod attaching;
 pub mod laws;
 pub mod way;
 
-pub use clnp_plan::{
-    clnp_base, clnp_options, clnp_views, esis_tables, forwarding, nsap, pdu_header,
-};
+pub use clnp_plan::{clnp, clnp_base, clnp_options, clnp_views, esis_tables, forwarding};
 pub use echo;
 pub use error_reports;
 pub use reassembly;
 pub use segmenter;
+
+/// NSAP addresses, their prefixes, SNPAs, and targets.
+pub mod nsaps {
+    pub use clnp_plan::nsaps::{Address, Prefix, Snpa, Target};
+}
 
 /// What a scenario says of a system, what a system is asked and gives out, and the lines that tell of it.
 pub mod system_plan {

@@ -21,5 +21,17 @@ pub use journal::{
 pub use line::{Word, kind_word, octets_word, on_or_off, push_line, push_words, target_text};
 pub use note::{Note, Why};
 pub use output::{Output, Sending};
-pub use pdu_header;
-pub use pdu_header::{clnp_base, clnp_options, clnp_views, nsap};
+pub use pdu_header::{clnp_base, clnp_options, clnp_views};
+
+/// NSAP addresses, their prefixes, SNPAs, and targets.
+pub mod nsaps {
+    pub use pdu_header::nsap::{Address, Prefix, Snpa, Target, laws};
+}
+
+/// CLNP PDUs.
+pub mod clnp {
+    pub use pdu_header::{
+        FIXED_PART, Header, HeaderRefusal, Kind, Parts, Pdu, Refusal, SEGMENTATION_PART, SegPart,
+        decode, laws,
+    };
+}

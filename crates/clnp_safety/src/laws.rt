@@ -373,6 +373,6 @@ fn laws_of_steps()
     clnp_machine::attaching::attachments_stay_sound();
     clnp_machine::clnp_options::laws::edits_keep_the_form();
     clnp_machine::clnp_options::laws::edits_keep_options_formed();
-    clnp_machine::pdu_header::laws::edited_pdus_are_pdus();
+    clnp_machine::clnp::laws::edited_pdus_are_pdus();
     clnp_machine::echo::laws::the_test_is_the_rule();
 }

@@ -14,7 +14,7 @@ ghost use Rattle.clnp_systems.specs.Stands.{Stands, configuration_of, entity_of,
 
 use clnp_machine::clnp_base::NoMemory;
 use clnp_machine::forwarding::Route;
-use clnp_machine::nsap::Prefix;
+use clnp_machine::nsaps::Prefix;
 use clnp_machine::system_plan::{Limits, Output, PortConfig, Role, SystemConfig};
 use end_system::{EndSystem, Input};
 use router::Router;

@@ -5,7 +5,7 @@ ghost use Rattle.clnp_network.specs.LabelledNetwork as network;
 ghost use Rattle.clnp_world.specs.Seen.{enters};
 
 use clnp_machine::clnp_views::Frame;
-use clnp_machine::nsap::{Snpa, Target};
+use clnp_machine::nsaps::{Snpa, Target};
 use clnp_machine::system_plan::{PortConfig, Role};
 
 /// Who made what a frame carries, by its place among the declarations, and at which moment of its own clock. Where the frame

@@ -1,6 +1,6 @@
 //! An echo reply that is known from elsewhere, and data that answer its request.
 
-use captures::esis_pdus::pdu_header::{Header, decode};
+use captures::clnp::{Header, decode};
 use echo::{matches, needs_id, reply};
 
 /// An echo request of lifetime 64 from 47002702 to 47002701 with the data 6869.

@@ -1,7 +1,7 @@
 //! An error report that is known from elsewhere, made and read.
 
-use captures::esis_pdus::nsap::Address;
-use captures::esis_pdus::pdu_header::decode;
+use captures::clnp::decode;
+use captures::nsaps::Address;
 use error_reports::{Told, read, report};
 
 /// A data PDU of lifetime 1 from 47002702 to 47002701, with a header of 19 octets.

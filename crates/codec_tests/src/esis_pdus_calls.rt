@@ -1,6 +1,6 @@
 //! ES-IS PDUs. All have the holding time 120.
-use captures::esis_pdus::nsap::{Address, Snpa};
-use captures::esis_pdus::{HelloRefusal, decode, encode, esh, ish, rd};
+use captures::esis_values::{HelloRefusal, decode, encode, esh, ish, rd};
+use captures::nsaps::{Address, Snpa};
 use std::alloc::Global;
 
 /// The end system hello of the address 47002702.
@@ -70,6 +70,6 @@ fn reads_and_writes_the_worked_pdus(rt: HostRuntime) {
 
 #[test]
 fn laws_can_be_called() {
-    captures::esis_pdus::laws::one_value();
-    captures::esis_pdus::laws::spelled_where_no_rule_is_broken();
+    captures::esis_values::laws::one_value();
+    captures::esis_values::laws::spelled_where_no_rule_is_broken();
 }

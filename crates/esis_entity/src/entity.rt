@@ -16,7 +16,7 @@ ghost use Rattle.esis_entity.specs.Stands.{Stands, StandsSince};
 use clnp_machine::clnp_base::NoMemory;
 use clnp_machine::esis::EsisPdu;
 use clnp_machine::esis_tables::{EsisLimits, Neighbour, Tables};
-use clnp_machine::nsap::{Address, Target};
+use clnp_machine::nsaps::{Address, Target};
 use clnp_machine::system_plan::{Output, SystemConfig};
 use hellos::hello;
 use output::send;

@@ -10,7 +10,7 @@ use crate::entity::output::send;
 use clnp_machine::clnp_base::NoMemory;
 use clnp_machine::esis::rd;
 use clnp_machine::esis_tables::Neighbour;
-use clnp_machine::nsap::{Address, Snpa, Target};
+use clnp_machine::nsaps::{Address, Snpa, Target};
 use clnp_machine::system_plan::{Output, SystemConfig};
 
 /// A system tells another, at a place of its own, of the better way to an address: the next system's address on that subnetwork,

@@ -17,5 +17,16 @@ pub use decoder::decode;
 pub use encoding::encode;
 pub use hello::{HelloRefusal, esh, ish, rd};
 pub use pdu::{EsisBody, EsisPdu, EsisRefusal};
-pub use pdu_header;
-pub use pdu_header::{clnp_base, clnp_options, nsap};
+pub use pdu_header::{clnp_base, clnp_options, clnp_views, fletcher};
+
+/// NSAP addresses, their prefixes, and SNPAs.
+pub mod nsaps {
+    pub use pdu_header::nsap::{Address, NsapFault, Prefix, Snpa};
+}
+
+/// CLNP PDUs.
+pub mod clnp {
+    pub use pdu_header::{
+        Broken, Header, Kind, Parts, Pdu, Refusal, SegPart, decode, encode, laws,
+    };
+}

@@ -22,11 +22,10 @@ ghost use Rattle.fair_text.specs.FairReassembly.Coming.{value_in};
 ghost use Rattle.fair_text.specs.FairReassembly.Tables.{At, ChangesTable, FairState, IsAt, place_of};
 ghost use Rattle.fair_commands.specs.Frames.{GoesOn, Tells};
 
+use fair_text::clnp::{Pdu, SegPart, decode};
 use fair_text::clnp_base::NoMemory;
-use fair_text::fair_reassembly::reassembly::{Accept, SlotNo};
-use fair_text::fair_reassembly::{Came, FairTable, Took, laws};
-use fair_text::nsap::Address;
-use fair_text::pdu_header::{Pdu, SegPart, decode};
+use fair_text::fair::{Accept, Came, FairTable, SlotNo, Took, laws};
+use fair_text::nsaps::Address;
 use fair_text::{Told, push_told};
 use std::alloc::Global;
 

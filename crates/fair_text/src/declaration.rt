@@ -9,7 +9,7 @@ ghost use Rattle.fair_reassembly.specs.Tables.{limits_of};
 
 use fair_reassembly::Share;
 use fair_reassembly::reassembly::TableLimits;
-use scenario::nsap::Address;
+use scenario::nsaps::Address;
 use scenario::word::{address_word, five_words, literal, number_word};
 use scenario::{Code, LineFault};
 

@@ -10,8 +10,23 @@ mod reader;
 mod told;
 
 pub use capture::Capture;
-pub use fair_reassembly;
 pub use fault::CaptureRefusal;
 pub use reader::read;
-pub use scenario::{clnp_base, nsap, pdu_header};
+pub use scenario::clnp_base;
 pub use told::{Told, push_end, push_told};
+
+/// NSAP addresses.
+pub mod nsaps {
+    pub use scenario::nsaps::Address;
+}
+
+/// CLNP PDUs.
+pub mod clnp {
+    pub use scenario::clnp::{Pdu, SegPart, decode};
+}
+
+/// Reassembly with a share for each of some sources.
+pub mod fair {
+    pub use fair_reassembly::reassembly::{Accept, SlotNo};
+    pub use fair_reassembly::{Came, FairTable, Took, laws};
+}

@@ -8,9 +8,9 @@ ghost use Rattle.scenario.specs.ClnpPlan.Words.{word_text};
 ghost use Rattle.fair_text.specs.Output.{end_line, told_line};
 ghost use Rattle.fair_text.specs.Telling.{told_by};
 
+use scenario::clnp::Kind;
 use scenario::clnp_base::NoMemory;
-use scenario::nsap::Address;
-use scenario::pdu_header::Kind;
+use scenario::nsaps::Address;
 use scenario::system_plan::{Word, kind_word, octets_word, push_line};
 
 /// What is told of a frame that came. `from` and `to` are source and destination of its PDU, `id` is the data unit

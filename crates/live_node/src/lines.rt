@@ -8,7 +8,7 @@ ghost use Rattle.live_model.specs.Lines.{LinkGone, Says, node_line_text};
 use crate::node::Stop;
 use clnp_machine::clnp_base::{NoMemory, Sink, push, push_decimal, write_all};
 use clnp_machine::clnp_views::Frame;
-use clnp_machine::nsap::Target;
+use clnp_machine::nsaps::Target;
 use clnp_machine::system_plan::{Note, journal_text, transmission_text};
 use std::alloc::Global;
 

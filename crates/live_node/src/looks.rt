@@ -9,7 +9,7 @@ use crate::lines::write_loss;
 use crate::node::{LiveNode, Stop};
 use clnp_machine::clnp_base::Sink;
 use clnp_machine::clnp_views::Frame;
-use clnp_machine::nsap::Snpa;
+use clnp_machine::nsaps::Snpa;
 use clnp_systems::Input;
 use link_board::{Polled, Ports};
 use std::alloc::Global;

@@ -15,7 +15,7 @@ use crate::agenda::Agenda;
 use crate::node::{LiveNode, Stop};
 use clnp_machine::clnp_base::Sink;
 use clnp_machine::clnp_views::Frame;
-use clnp_machine::nsap::Address;
+use clnp_machine::nsaps::Address;
 use clnp_machine::system_plan::{Ask, Role};
 use clnp_systems::Input;
 use link_board::Ports;

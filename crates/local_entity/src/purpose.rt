@@ -5,8 +5,8 @@ ghost use Rattle.clnp_machine.specs.PduHeader.Grammar.{IsPdu};
 ghost use Rattle.clnp_machine.specs.PduHeader.View.{pdu_value};
 ghost use Rattle.local_entity.specs.Receipt.{purpose_of};
 
+use clnp_machine::clnp::{Kind, Pdu};
 use clnp_machine::error_reports::read;
-use clnp_machine::pdu_header::{Kind, Pdu};
 
 /// What a unit is for, once it is whole.
 #[derive(Clone, Copy, PartialEq, Eq)]

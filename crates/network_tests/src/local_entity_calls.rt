@@ -2,11 +2,11 @@ ghost use Rattle.std.specs.Prelude.{false};
 ghost use Rattle.clnp_machine.specs.ClnpOptions.Grammar.{FitsKind};
 ghost use Rattle.clnp_machine.specs.ClnpOptions.Parameter.{parameters};
 
+use clnp_machine::clnp::{Kind, decode};
 use clnp_machine::clnp_base::{NoMemory, lines, push, push_decimal};
 use clnp_machine::clnp_options::{OptionList, laws};
 use clnp_machine::clnp_views::Frame;
-use clnp_machine::nsap::Address;
-use clnp_machine::pdu_header::{Kind, decode};
+use clnp_machine::nsaps::Address;
 use clnp_machine::system_plan::{Ask, Limits, SystemConfig, journal_text};
 use clnp_program::scenarios::{Scenario, read};
 use local_entity::{Action, DrawRefusal, IdPool, Local};

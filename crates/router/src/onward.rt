@@ -12,9 +12,9 @@ ghost use Rattle.clnp_machine.specs.Segmenter.Left.{IsCutOf};
 ghost use Rattle.system_entity.specs.Comes.{HasValue};
 ghost use Rattle.router.specs.Onward.{ComesTo, life_left};
 
+use clnp_machine::clnp::Header;
 use clnp_machine::clnp_options::Reason;
 use clnp_machine::laws;
-use clnp_machine::pdu_header::Header;
 use clnp_machine::segmenter::{Cuts, NotPermitted};
 use clnp_machine::system_plan::PortConfig;
 use clnp_machine::way::Way;

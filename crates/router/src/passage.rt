@@ -10,9 +10,9 @@ ghost use Rattle.clnp_machine.specs.System.{SystemState};
 ghost use Rattle.clnp_machine.specs.PduHeader.Headers.{IsHeader, SpellsHeader, with_options};
 ghost use Rattle.clnp_machine.specs.PduHeader.Value.{PduValue};
 
+use clnp_machine::clnp::Header;
 use clnp_machine::clnp_options::Reason;
-use clnp_machine::nsap::Address;
-use clnp_machine::pdu_header::Header;
+use clnp_machine::nsaps::Address;
 use clnp_machine::way::Way;
 
 /// No source route has so many titles, since its pointer is an octet.

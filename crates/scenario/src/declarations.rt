@@ -21,7 +21,7 @@ use crate::word::{
 };
 use clnp_plan::clnp_base::{next_word, same};
 use clnp_plan::forwarding::Route;
-use clnp_plan::nsap::{Address, Prefix, Snpa};
+use clnp_plan::nsaps::{Address, Prefix, Snpa};
 use clnp_plan::{Limits, PortConfig, Role, Settings};
 use std::alloc::Global;
 use std::marker::Model;

@@ -32,7 +32,7 @@ pub(crate) fn each_version_is_fit()
         → plan_at links newest (lines_of text) ≡ Ok plan → IsFit plan }
 {
     clnp_plan::clnp_options::laws::spelled_where_no_rule_is_broken();
-    clnp_plan::nsap::laws::read_is_address();
+    clnp_plan::nsaps::laws::read_is_address();
 }
 
 /// What is accepted for a live node on a board of so many links is what is accepted anyhow and is for that board: it
@@ -46,7 +46,7 @@ pub fn accepted_for_run()
 pub fn what_is_written_is_read()
     ensures { (plan : Plan) → IsFit plan → plan_of (text_of plan) ≡ Ok plan }
 {
-    clnp_plan::nsap::laws::text_reads_back();
+    clnp_plan::nsaps::laws::text_reads_back();
 }
 
 /// What is written of a scenario that was read is read as the same scenario, and no two scenarios are written alike.

@@ -21,9 +21,7 @@ mod wish;
 pub mod word;
 mod writer;
 
-pub use clnp_plan::{
-    clnp_base, clnp_options, clnp_views, esis_tables, forwarding, nsap, pdu_header,
-};
+pub use clnp_plan::clnp_base;
 pub use code::Code;
 pub use event::{Body, Event, Move};
 pub use fault::{LineFault, ScenarioRefusal};
@@ -40,4 +38,34 @@ pub mod system_plan {
         Limits, Note, PortConfig, Role, Settings, SystemConfig, Why, Word, journal_text, kind_word,
         late_text, octets_word, push_end, push_line, transmission_text, void_text,
     };
+}
+
+/// CLNP PDUs.
+pub mod clnp {
+    pub use clnp_plan::clnp::{Kind, Pdu, SegPart, decode};
+}
+
+/// NSAP addresses, their prefixes, SNPAs, and targets.
+pub mod nsaps {
+    pub use clnp_plan::nsaps::{Address, Prefix, Snpa, Target};
+}
+
+/// The options part of a header.
+pub mod options {
+    pub use clnp_plan::clnp_options::OptionList;
+}
+
+/// Octets handed on.
+pub mod views {
+    pub use clnp_plan::clnp_views::Frame;
+}
+
+/// What is heard of neighbours.
+pub mod hearing {
+    pub use clnp_plan::esis_tables::{EsisLimits, Gone, Heard, Neighbour, TableKind, Tables};
+}
+
+/// Configured routes.
+pub mod routing {
+    pub use clnp_plan::forwarding::{Route, RouteRefusal, Routes};
 }

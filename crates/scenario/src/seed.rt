@@ -9,7 +9,7 @@ use crate::kept_ask::KeptAsk;
 use crate::plan::Scenario;
 use crate::reader::read;
 use clnp_plan::clnp_base::NoMemory;
-use clnp_plan::nsap::Address;
+use clnp_plan::nsaps::Address;
 use std::alloc::Global;
 
 /// Two local networks that two routers join, with two hosts on each.

@@ -7,7 +7,7 @@ ghost use Rattle.scenario.specs.Standing.{changed_at, first_clocks, is_ahead, is
 
 use crate::event::Event;
 use clnp_plan::forwarding::Route;
-use clnp_plan::nsap::{Prefix, Snpa};
+use clnp_plan::nsaps::{Prefix, Snpa};
 use clnp_plan::{PortConfig, SystemConfig};
 use std::alloc::{AllocError, Global};
 use std::marker::Model;

@@ -12,7 +12,7 @@ use crate::event::Body;
 use crate::fault::LineFault;
 use clnp_plan::clnp_base::{Octets, decimal, next_word, same};
 use clnp_plan::clnp_options::OptionList;
-use clnp_plan::nsap::{Address, Prefix, Snpa, Target};
+use clnp_plan::nsaps::{Address, Prefix, Snpa, Target};
 use std::alloc::Global;
 
 /// The word of a line that has one word.

@@ -2,7 +2,7 @@
 use crate::place::{Mark, Place, word_at};
 use scenario::Code;
 use scenario::clnp_base::{decimal, same};
-use scenario::nsap::{Address, Prefix, Snpa};
+use scenario::nsaps::{Address, Prefix, Snpa};
 use scenario::word::{is_digits, is_name};
 
 /// What a word of a line has to be.

@@ -3,7 +3,7 @@ use crate::form::{Form, are_octets, is_number, unless};
 use crate::place::Place;
 use scenario::Code;
 use scenario::clnp_base::same;
-use scenario::clnp_options::OptionList;
+use scenario::options::OptionList;
 
 /// What may stand behind the words that a line must have.
 #[derive(Clone, Copy)]

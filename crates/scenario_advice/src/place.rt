@@ -1,6 +1,6 @@
 //! A line of a text, and what the lines before it declare.
 use scenario::clnp_base::{decimal, is_skipped, lines, next_word, same, words};
-use scenario::nsap::{Address, Prefix, Snpa};
+use scenario::nsaps::{Address, Prefix, Snpa};
 
 /// The header of a text of version 2.
 pub(crate) const VERSION_2: &[u8] = b"clnp-sim 2";

@@ -5,7 +5,7 @@ use crate::grammar::{More, key_of};
 use crate::place::{Found, Mark, Place, begins, count_words, number_at, word_at};
 use scenario::Code;
 use scenario::clnp_base::{is_skipped, lines, same, words};
-use scenario::nsap::{Address, Prefix, Snpa};
+use scenario::nsaps::{Address, Prefix, Snpa};
 
 /// What is said of a line whose words are right each by itself.
 pub(crate) fn of_whole(

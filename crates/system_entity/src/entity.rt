@@ -27,12 +27,12 @@ ghost use Rattle.system_entity.specs.Steps.{IsSpentIn, TakesStep};
 
 use crate::passing::Passing;
 use crate::way::{by_route, host_hop, to_neighbour};
+use clnp_machine::clnp::Kind;
 use clnp_machine::clnp_base::NoMemory;
 use clnp_machine::clnp_views::Frame;
 use clnp_machine::esis_tables::Neighbour;
 use clnp_machine::forwarding::Routes;
-use clnp_machine::nsap::Address;
-use clnp_machine::pdu_header::Kind;
+use clnp_machine::nsaps::Address;
 use clnp_machine::segmenter::Cuts;
 use clnp_machine::system_plan::{
     Ask, Limits, Note, Output, PortConfig, Role, SendRefusal, SystemConfig,

@@ -1,6 +1,6 @@
 //! What comes to a system.
 use clnp_machine::clnp_views::Frame;
-use clnp_machine::nsap::{Address, Snpa};
+use clnp_machine::nsaps::{Address, Snpa};
 use clnp_machine::system_plan::Ask;
 
 /// What comes to a system.

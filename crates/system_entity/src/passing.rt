@@ -5,8 +5,8 @@ ghost use Rattle.clnp_machine.specs.Step.{begins_unit};
 ghost use Rattle.clnp_machine.specs.PduHeader.View.{part_value, pdu_value};
 ghost use Rattle.system_entity.specs.Comes.{HasValue};
 
-use clnp_machine::nsap::Address;
-use clnp_machine::pdu_header::{Header, Pdu, SegPart};
+use clnp_machine::clnp::{Header, Pdu, SegPart};
+use clnp_machine::nsaps::Address;
 
 /// A PDU with a lifetime left for an address that isn't the system's: all that is needed so that it goes on.
 #[derive(Clone, Copy, PartialEq, Eq)]

@@ -4,7 +4,7 @@ ghost use Rattle.clnp_machine.specs.Step as step;
 
 use clnp_machine::esis_tables::Neighbour;
 use clnp_machine::forwarding::Route;
-use clnp_machine::nsap::Target;
+use clnp_machine::nsaps::Target;
 use clnp_machine::way::{Hop, Way};
 
 /// The way to an end system that was heard of.

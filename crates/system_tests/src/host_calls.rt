@@ -3,7 +3,7 @@ use crate::network::{
     see_port, see_sent,
 };
 use clnp_machine::clnp_views::Frame;
-use clnp_machine::nsap::{Snpa, Target};
+use clnp_machine::nsaps::{Snpa, Target};
 use clnp_machine::system_plan::{Limits, Output, Role, SystemConfig};
 use clnp_systems::end_system::EndSystem;
 use std::alloc::Global;

@@ -6,7 +6,7 @@ ghost use Rattle.clnp_machine.specs.ClnpOptions.Parameter.{parameters};
 use clnp_machine::clnp_base::lines;
 use clnp_machine::clnp_options::{OptionList, laws};
 use clnp_machine::forwarding::Route;
-use clnp_machine::nsap::{Address, Prefix, Snpa, Target};
+use clnp_machine::nsaps::{Address, Prefix, Snpa, Target};
 use clnp_machine::system_plan::{Ask, Note, Output, PortConfig};
 use scenario::{Scenario, read};
 use std::alloc::Global;

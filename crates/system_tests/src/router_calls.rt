@@ -4,7 +4,7 @@ use crate::network::{
 };
 use clnp_machine::clnp_views::Frame;
 use clnp_machine::esis_tables::Neighbour;
-use clnp_machine::nsap::{Snpa, Target};
+use clnp_machine::nsaps::{Snpa, Target};
 use clnp_machine::system_plan::{Limits, Output, Role, SystemConfig};
 use clnp_machine::way::Way;
 use clnp_systems::router::Router;

@@ -3,7 +3,7 @@ use crate::network::{
     see_sent,
 };
 use clnp_machine::clnp_views::Frame;
-use clnp_machine::nsap::Snpa;
+use clnp_machine::nsaps::Snpa;
 use clnp_machine::system_plan::{Limits, Note, Output, Role, SystemConfig};
 use clnp_systems::System;
 use std::alloc::Global;

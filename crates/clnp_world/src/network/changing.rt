@@ -11,7 +11,7 @@ use super::Network;
 use crate::lines::{Line, LineSink};
 use clnp_machine::clnp_base::{NoMemory, Octets};
 use clnp_machine::forwarding::Route;
-use clnp_machine::nsap::{Prefix, Snpa};
+use clnp_machine::nsaps::{Prefix, Snpa};
 use clnp_machine::system_plan::{Note, PortConfig, Role};
 use clnp_network::scenarios::Subnet;
 use clnp_systems::System;

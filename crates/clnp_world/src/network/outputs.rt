@@ -18,7 +18,7 @@ use crate::copy::{FrameCopy, Origin};
 use crate::lines::{Line, LineSink};
 use clnp_machine::clnp_base::NoMemory;
 use clnp_machine::clnp_views::Frame;
-use clnp_machine::nsap::Target;
+use clnp_machine::nsaps::Target;
 use clnp_machine::system_plan::{Note, Output, PortConfig, Sending, SystemConfig};
 use clnp_systems::sent_frame;
 use std::alloc::Global;

@@ -11,7 +11,7 @@ use super::output::send;
 use clnp_machine::clnp_base::NoMemory;
 use clnp_machine::clnp_views::Head;
 use clnp_machine::esis::{HelloRefusal, esh, ish};
-use clnp_machine::nsap::{Address, Target};
+use clnp_machine::nsaps::{Address, Target};
 use clnp_machine::system_plan::{Output, Role, SystemConfig};
 
 /// Says hello on each of so many ports, as a system that says it once in `period` seconds.

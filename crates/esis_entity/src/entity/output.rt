@@ -8,7 +8,7 @@ ghost use Rattle.esis_entity.specs.Does.{StaysInFront};
 
 use clnp_machine::clnp_base::NoMemory;
 use clnp_machine::clnp_views::Head;
-use clnp_machine::nsap::Target;
+use clnp_machine::nsaps::Target;
 use clnp_machine::system_plan::{Note, Output, Sending};
 
 /// Gives out a note.

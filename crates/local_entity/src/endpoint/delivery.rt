@@ -14,7 +14,7 @@ use super::Endpoint;
 use crate::action::Action;
 use crate::purpose::Purpose;
 use clnp_machine::clnp_base::{NoMemory, Octets};
-use clnp_machine::nsap::Address;
+use clnp_machine::nsaps::Address;
 use clnp_machine::system_plan::Note;
 use std::alloc::Global;
 

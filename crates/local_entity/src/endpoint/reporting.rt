@@ -11,9 +11,9 @@ ghost use Rattle.local_entity.specs.Reporting.{IsReport};
 
 use super::Endpoint;
 use crate::action::{Action, Draft};
+use clnp_machine::clnp::Kind;
 use clnp_machine::clnp_views::View;
 use clnp_machine::error_reports::report;
-use clnp_machine::pdu_header::Kind;
 use clnp_machine::system_plan::Note;
 
 impl Endpoint {

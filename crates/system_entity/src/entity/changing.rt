@@ -11,7 +11,7 @@ ghost use Rattle.system_entity.specs.Stands.{PartsStandSince, Stands};
 use super::SystemEntity;
 use clnp_machine::clnp_base::NoMemory;
 use clnp_machine::forwarding::Route;
-use clnp_machine::nsap::Prefix;
+use clnp_machine::nsaps::Prefix;
 use clnp_machine::system_plan::PortConfig;
 use std::alloc::Global;
 

@@ -29,6 +29,7 @@ ghost use Rattle.system_entity.specs.Stands.{PartsStand, PartsStandSince};
 
 use super::{Arrival, SystemEntity};
 use crate::passing::Passing;
+use clnp_machine::clnp::{Kind, Pdu, Refusal, decode};
 use clnp_machine::clnp_base::NoMemory;
 use clnp_machine::clnp_options::Reason;
 use clnp_machine::clnp_views::Frame;
@@ -36,8 +37,7 @@ use clnp_machine::esis::EsisRefusal;
 use clnp_machine::esis_tables::Neighbour;
 use clnp_machine::forwarding::{RouteRefusal, Routes};
 use clnp_machine::laws;
-use clnp_machine::nsap::Address;
-use clnp_machine::pdu_header::{Kind, Pdu, Refusal, decode};
+use clnp_machine::nsaps::Address;
 use clnp_machine::segmenter::Cuts;
 use clnp_machine::system_plan::{Ask, Note, Output, PortConfig, Role, SendRefusal, SystemConfig};
 use clnp_machine::way::{Hop, Way};
