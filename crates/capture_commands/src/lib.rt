@@ -7,5 +7,3 @@ mod fault;
 pub mod laws;
 pub mod pack;
 pub mod show;
-
-pub use command_base;

@@ -4,7 +4,7 @@ ghost use Rattle.clnp_commands.specs.Advised.{Advised};
 ghost use Rattle.clnp_commands.specs.declared.command.Command.TheVariants.{Whole};
 
 use crate::command::WholeCommand;
-use capture_commands::command_base::Status;
+use command_base::Status;
 use scenario_advice::{Advice, of_capture, of_scenario, of_scenario_of_version_1, of_vectors};
 
 /// What the author of an input is told that a command refuses at one of its lines: which word is at fault and what is wanted

@@ -12,12 +12,11 @@ mod sim;
 mod storm;
 mod top;
 
-pub use capture_commands::command_base;
 pub use clnp_machine::clnp_base;
 pub use clnp_world;
 pub use clnp_world::scenarios;
 pub use command::{Command, StreamedCommand, WholeCommand, link_places};
-pub use command_base::Status;
-pub use live_commands::link_board;
+pub use command_base::{Status, code};
+pub use live_commands::Ports;
 pub use scenario_advice::Advice;
 pub use top::clnp_main;

@@ -13,11 +13,11 @@ ghost use Rattle.clnp_commands.specs.Playing.{Waits};
 ghost use Rattle.clnp_commands.specs.Time.{HasTime};
 
 use crate::play::{Player, Stop, play_events};
-use capture_commands::command_base::{Status, flush, flush_full};
 use clnp_machine::clnp_base::{Failed, Sink};
 use clnp_machine::system_plan::Telling;
 use clnp_world::scenarios::{Move, Scenario, ScenarioRefusal};
 use clnp_world::{World, WorldRefusal};
+use command_base::{Status, flush, flush_full};
 use std::alloc::Global;
 
 /// Writes the journal, or the trace, of the scenario that a text is.

@@ -9,10 +9,10 @@ ghost use Rattle.clnp_commands.specs.Counting.{SumOf};
 ghost use Rattle.clnp_commands.specs.Playing.{Tallies};
 
 use crate::play::{Player, Stop, play_events};
-use capture_commands::command_base::{Status, push_number};
 use clnp_machine::clnp_base::{NoMemory, Sink, push, write_all};
 use clnp_world::scenarios::{Move, Scenario, from_seed};
 use clnp_world::{Counts, World, WorldRefusal};
+use command_base::{Status, push_number};
 use std::alloc::Global;
 
 /// What a run of the scenario of a seed comes to.

@@ -9,9 +9,7 @@ ghost use Rattle.clnp_program.specs.Texts.{behind_code, behind_fault, wanted};
 
 use arrayvec::ArrayString;
 use clnp_commands::clnp_base::{Failed, Sink, write_all};
-use clnp_commands::command_base::code::{
-    CUT_FILE, LINK_TYPE, MAGIC, NOT_PACKABLE, RECORD_LENGTH, VERSION,
-};
+use clnp_commands::code::{CUT_FILE, LINK_TYPE, MAGIC, NOT_PACKABLE, RECORD_LENGTH, VERSION};
 use clnp_commands::scenarios::Code;
 use clnp_commands::{Advice, Status};
 use std::fmt::Write;

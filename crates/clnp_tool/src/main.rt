@@ -8,11 +8,10 @@ mod opening;
 use crate::arguments::words;
 use crate::opening::open;
 use clnp_program::clnp_base::{HalfSeconds, StdSink, StdSource};
-use clnp_program::clnp_commands::link_board::{Board, Link};
-use clnp_program::clnp_commands::{Status, link_places};
-use clnp_program::{end, end_without_link, run};
+use clnp_program::{Status, end, end_without_link, link_places, run};
 use std::io;
 use std::process::ExitCode;
+use udp_links::link_board::{Board, Link};
 use udp_links::{LinkFault, Traffic};
 
 fn main(rt: HostRuntime) -> ExitCode {

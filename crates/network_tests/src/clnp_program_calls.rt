@@ -1,7 +1,6 @@
 use clnp_machine::clnp_base::{MemClock, MemSink, MemSource};
-use clnp_program::clnp_commands::Status;
-use clnp_program::clnp_commands::link_board::Board;
-use clnp_program::{end, run};
+use clnp_program::{Status, end, run};
+use link_board::Board;
 use std::alloc::Global;
 use std::process::Abort;
 

@@ -2,8 +2,8 @@
 ghost use Rattle.std.specs.Prelude.{◌≡◌, ◌<◌, ◌^◌, None};
 
 use clnp_program::clnp_base::{Clock, Octets, decimal, push_unhex, words};
-use clnp_program::clnp_commands::link_board::nsap::Snpa;
-use clnp_program::clnp_commands::link_board::{MemFrame, MemLink};
+use link_board::nsap::Snpa;
+use link_board::{MemFrame, MemLink};
 use std::alloc::{AllocError, Global};
 
 /// How many frames, and how many octets of them together, a link has room for that are sent on it.
