@@ -1,4 +1,4 @@
-use scenario::clnp_base::lines;
+use scenario::base::lines;
 use scenario::system_plan::{Limits, PortConfig, Role, SystemConfig};
 use scenario::{
     Body, Event, Scenario, ScenarioRefusal, Subnet, from_seed, migrate, read, read_for_run,

@@ -11,7 +11,7 @@ ghost use Rattle.capture_commands.specs.Check.{checking, counting, first_checked
 use crate::fault::fault_of;
 use captures::many::check_line;
 use captures::{Verdict, laws};
-use command_base::clnp_base::{DigitValues, NoMemory, Sink, next_line, push};
+use command_base::base::{DigitValues, NoMemory, Sink, next_line, push};
 use command_base::{
     LineFault, LineStop, Status, push_number, refuse, write_block, write_full_block,
 };

@@ -10,7 +10,7 @@ ghost use Rattle.capture_commands.specs.Pack.{packing};
 use crate::fault::unpacked_fault;
 use capture_text::laws;
 use capture_text::many::pack_line;
-use command_base::clnp_base::{DigitValues, Sink, next_line};
+use command_base::base::{DigitValues, Sink, next_line};
 use command_base::{LineFault, LineStop, Status, refuse, write_block, write_full_block};
 use std::alloc::Global;
 

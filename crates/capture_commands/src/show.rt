@@ -11,7 +11,7 @@ ghost use Rattle.capture_commands.specs.Show.{showing};
 use crate::fault::fault_of;
 use captures::laws;
 use captures::many::{read_capture, show_line};
-use command_base::clnp_base::{DigitValues, Sink, next_line};
+use command_base::base::{DigitValues, Sink, next_line};
 use command_base::{LineFault, LineStop, Status, refuse, write_block, write_full_block};
 use std::alloc::Global;
 

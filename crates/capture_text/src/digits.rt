@@ -5,7 +5,7 @@ ghost use Rattle.capture_text.specs.Said.{number_in, octets_in, with_counted, wi
 ghost use Rattle.capture_text.specs.View.{Misses};
 
 use crate::refusal::PackRefusal;
-use captures::clnp_base::{DigitValues, HexFault, decimal, push};
+use captures::base::{DigitValues, HexFault, decimal, push};
 use captures::push_spelled;
 
 /// The most octets that one octet counts.

@@ -7,7 +7,7 @@ ghost use Rattle.capture_text.specs.View.{Misses, said_by};
 use crate::pieces::{Pieces, pieces_of};
 use crate::refusal::PackRefusal;
 use crate::words::{octet_5, type_of};
-use captures::clnp_base::{DigitValues, next_word, push, same};
+use captures::base::{DigitValues, next_word, push, same};
 use std::alloc::Global;
 
 /// The first octet of a CLNP PDU (ISO 8473, section 7.2.2).

@@ -11,7 +11,7 @@ ghost use Rattle.capture_text.specs.Packing.{IsNotShown, Lacks, Packs, PacksTooM
 use crate::laid::frame_of;
 use crate::refusal::PackRefusal;
 use crate::words::is_unpackable;
-use captures::clnp_base::{DigitValues, push_hex, same};
+use captures::base::{DigitValues, push_hex, same};
 use captures::many::show_line;
 use captures::{MOST_OCTETS, is_skipped, laws};
 use std::alloc::Global;

@@ -10,7 +10,7 @@ use crate::digits::{
 };
 use crate::refusal::PackRefusal;
 use crate::words::behind;
-use captures::clnp_base::{DigitValues, next_word};
+use captures::base::{DigitValues, next_word};
 use std::alloc::Global;
 
 /// The most addresses that one octet counts.

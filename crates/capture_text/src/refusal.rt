@@ -1,6 +1,6 @@
 //! Why a line isn't packed.
 
-use captures::clnp_base::NoMemory;
+use captures::base::NoMemory;
 use std::alloc::AllocError;
 
 /// Why a line isn't packed.

@@ -6,7 +6,7 @@ ghost use Rattle.capture_text.specs.Packing.{IsNotShown, Packs, PacksTooMuch, Pa
 
 use crate::many;
 use crate::refusal::PackRefusal;
-use captures::clnp_base::DigitValues;
+use captures::base::DigitValues;
 use std::alloc::Global;
 
 /// Appends the digits of the frame that a shown line packs to, as `many::pack_line` does.

@@ -1,7 +1,7 @@
 //! Lines packed and shown again, and lines of which one word was changed.
 use crate::PackRefusal;
 use crate::many::pack_line;
-use captures::clnp_base::{DigitValues, NoMemory, next_line, next_word, push, words};
+use captures::base::{DigitValues, NoMemory, next_line, next_word, push, words};
 use captures::many::{read_capture, show_line};
 use std::alloc::Global;
 

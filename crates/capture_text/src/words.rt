@@ -5,8 +5,8 @@ ghost use Rattle.capture_text.specs.Laid as laid;
 ghost use Rattle.capture_text.specs.Laid.{octet_5};
 ghost use Rattle.capture_text.specs.Packing.{has_prefix, is_unpackable};
 
+use captures::base::same;
 use captures::clnp::Kind;
-use captures::clnp_base::same;
 
 /// Whether a text begins so.
 pub(crate) fn has_prefix(prefix: &[u8], text: &[u8]) -> bool

@@ -3,7 +3,7 @@ ghost use Rattle.std.specs.Prelude.{◌≡◌, ◌%◌, ◌↔◌, length, OnOk,
 ghost use Rattle.hex.specs.Hex.{decode_of};
 ghost use Rattle.captures.specs.ClnpBase.Hexadecimal.{AppendsSpelled, IsDigitRefusal};
 
-use esis_pdus::clnp_base::{DigitValues, HexFault};
+use esis_pdus::base::{DigitValues, HexFault};
 
 /// Appends the octets that hexadecimal digits in either case spell, two digits an octet. It does what `push_unhex`
 /// does, for texts of many words: what digits are worth isn't asked anew for each.

@@ -8,7 +8,7 @@ ghost use Rattle.captures.specs.Kept.{Keeps};
 ghost use Rattle.captures.specs.EsisShown.{ShowsOther, addresses_text, body_text, esis_refusal_text, esis_text, esis_word};
 
 use crate::words::{push_octets, push_options, push_pair};
-use esis_pdus::clnp_base::{NoMemory, push, push_number};
+use esis_pdus::base::{NoMemory, push, push_number};
 use esis_pdus::nsaps::Address;
 use esis_pdus::{AddressList, EsisBody, EsisPdu, EsisRefusal, decode};
 

@@ -12,8 +12,7 @@ mod words;
 
 pub use capture::{LineRefusal, MOST_OCTETS};
 pub use digits::push_spelled;
-pub use esis_pdus::clnp_base::is_skipped;
-pub use esis_pdus::{clnp_base, clnp_options, clnp_views, fletcher, nsaps};
+pub use esis_pdus::base::is_skipped;
 pub use single::{check_line, read_capture, show_line};
 pub use vector::Verdict;
 
@@ -26,10 +25,17 @@ pub mod many {
 
 /// CLNP PDUs.
 pub mod clnp {
-    pub use esis_pdus::clnp::{Header, Kind, Parts, decode, encode};
+    pub use esis_pdus::clnp::Kind;
 }
 
 /// ES-IS PDUs.
 pub mod esis_values {
     pub use esis_pdus::{HelloRefusal, decode, encode, esh, ish, laws, rd};
+}
+
+/// Octets and text.
+pub mod base {
+    pub use esis_pdus::base::{
+        DigitValues, HexFault, NoMemory, decimal, next_line, next_word, push, push_hex, same, words,
+    };
 }

@@ -7,8 +7,8 @@ ghost use Rattle.captures.specs.Shown.{Shows, refusal_text, front_text, kind_and
 
 use crate::esis::push_other;
 use crate::words::{flags_text, push_octets, push_options, push_pair, report_text};
+use esis_pdus::base::{NoMemory, push, push_number};
 use esis_pdus::clnp::{Broken, Pdu, Refusal, SegPart, decode};
-use esis_pdus::clnp_base::{NoMemory, push, push_number};
 
 /// Appends the line that shows a frame, without a `\n` (ISO 8473, sections 7 and 7.9.5).
 ///

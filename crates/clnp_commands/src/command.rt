@@ -2,7 +2,7 @@
 ghost use Rattle.std.specs.Prelude.{◌≡◌, ◌≤◌, IfSome, length, map, string_bytes};
 ghost use Rattle.clnp_commands.specs.Words.{ArePlaces, alone, command_named, command_of, no_link_from, reads, run_of, run_over, storm_of, turns_of};
 
-use clnp_machine::clnp_base::decimal;
+use command_base::base::decimal;
 use link_words::is_link_word;
 use std::ops::Range;
 

@@ -12,11 +12,21 @@ mod sim;
 mod storm;
 mod top;
 
-pub use clnp_machine::clnp_base;
-pub use clnp_world;
 pub use clnp_world::scenarios;
 pub use command::{Command, StreamedCommand, WholeCommand, link_places};
 pub use command_base::{Status, code};
 pub use live_commands::Ports;
 pub use scenario_advice::Advice;
 pub use top::clnp_main;
+
+/// Octets, their sources and sinks, and clocks.
+pub mod base {
+    pub use command_base::base::{
+        Clock, Failed, HalfSeconds, NoMemory, Sink, Source, StdSink, StdSource, write_all,
+    };
+}
+
+/// A network of systems, move by move.
+pub mod worlds {
+    pub use clnp_world::{Counts, Move, World};
+}

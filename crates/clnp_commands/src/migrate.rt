@@ -5,9 +5,9 @@ ghost use Rattle.capture_commands.specs.CommandBase.ComesAs.{ComesAs, most_input
 ghost use Rattle.clnp_commands.specs.Tasks.{migrate_task};
 
 use crate::sim::few_lines;
-use clnp_machine::clnp_base::{Sink, write_all};
 use clnp_world::scenarios::ScenarioRefusal;
 use command_base::Status;
+use command_base::base::{Sink, write_all};
 use std::alloc::Global;
 
 /// Writes the text of a scenario of version 1 in version 2. Nothing is written before the whole text was accepted.

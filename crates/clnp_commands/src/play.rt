@@ -8,9 +8,9 @@ ghost use Rattle.clnp_world.specs.Stands.{Stands};
 ghost use Rattle.clnp_commands.specs.Playing.{IsUnderWay, Kind, PlayAs, Played};
 ghost use Rattle.clnp_commands.specs.Time.{HasTime};
 
-use clnp_machine::clnp_base::Sink;
 use clnp_world::World;
 use clnp_world::scenarios::{Event, Move, Scenario};
+use command_base::base::Sink;
 use std::alloc::Global;
 
 /// Why no further move is played.

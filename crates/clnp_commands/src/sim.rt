@@ -13,10 +13,10 @@ ghost use Rattle.clnp_commands.specs.Playing.{Waits};
 ghost use Rattle.clnp_commands.specs.Time.{HasTime};
 
 use crate::play::{Player, Stop, play_events};
-use clnp_machine::clnp_base::{Failed, Sink};
 use clnp_machine::system_plan::Telling;
 use clnp_world::scenarios::{Move, Scenario, ScenarioRefusal};
 use clnp_world::{World, WorldRefusal};
+use command_base::base::{Failed, Sink};
 use command_base::{Status, flush, flush_full};
 use std::alloc::Global;
 

@@ -9,9 +9,9 @@ ghost use Rattle.clnp_commands.specs.Counting.{SumOf};
 ghost use Rattle.clnp_commands.specs.Playing.{Tallies};
 
 use crate::play::{Player, Stop, play_events};
-use clnp_machine::clnp_base::{NoMemory, Sink, push, write_all};
 use clnp_world::scenarios::{Move, Scenario, from_seed};
 use clnp_world::{Counts, World, WorldRefusal};
+use command_base::base::{NoMemory, Sink, push, write_all};
 use command_base::{Status, push_number};
 use std::alloc::Global;
 

@@ -8,7 +8,7 @@ ghost use Rattle.clnp_plan.specs.declared.config.PortConfig.{PortConfig};
 ghost use Rattle.clnp_machine.specs.Attachment.{Attachment, IsAttached, as_declared};
 ghost use Rattle.clnp_machine.specs.Change.{Change, ChangesFairly, PortIsAt, PortTakes, RouteIsGone, RouteIsSet, changed, with_mtu};
 
-use crate::forwarding::laws;
+use crate::routing::laws;
 
 /// A system is attached as it should be at its start, and a fair change leaves it so: each port has a transit of at least 1 and
 /// takes at least 512 octets, each route leads out of a port that is there, and no two routes have one prefix.

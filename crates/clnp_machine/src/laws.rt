@@ -208,9 +208,9 @@ pub fn a_source_route_leads_elsewhere()
         → target_of (options_behind s p.options) ≡ Some title
         → title ≢ title_of s }
 {
-    clnp_plan::clnp_options::laws::edits_leave_the_source_route();
-    clnp_plan::clnp_options::laws::edits_keep_options_formed();
-    clnp_plan::clnp_options::laws::a_source_route_leads_on();
+    clnp_plan::options::laws::edits_leave_the_source_route();
+    clnp_plan::options::laws::edits_keep_options_formed();
+    clnp_plan::options::laws::a_source_route_leads_on();
 }
 
 /// A packet for another address goes on by the way to the title to which its source route leads next, else to its
@@ -315,7 +315,7 @@ pub fn hellos_are_pdus()
     ensures known { (s : SystemState) (input : Input) → IsFair input → KnowsAddresses s
         → KnowsAddresses (step s input).after }
 {
-    clnp_plan::forwarding::laws::what_is_longest_covers();
+    clnp_plan::routing::laws::what_is_longest_covers();
 }
 
 /// A redirect that comes to a system changes where it sends towards the redirect's destination alone, and no way of a router's.
@@ -324,7 +324,7 @@ pub fn a_redirect_changes_one_next_hop()
         → IsRedirectFor destination content
         → KeepsNextHops destination s (step s (FrameComes port sender to_group content)).after }
 {
-    clnp_plan::esis_tables::laws::a_redirect_changes_its_destination_alone();
+    clnp_plan::hearing::laws::a_redirect_changes_its_destination_alone();
 }
 
 /// A router that sends a packet on tells its source of a better way exactly where that is called for (ISO 9542, section 6.8):
@@ -650,7 +650,7 @@ pub fn no_frame_is_of_both_protocols()
 fn laws_of_edits()
     ensures { EditLaws }
 {
-    clnp_plan::clnp_options::laws::edits_keep_the_form();
-    clnp_plan::clnp_options::laws::edits_keep_options_formed();
+    clnp_plan::options::laws::edits_keep_the_form();
+    clnp_plan::options::laws::edits_keep_options_formed();
     clnp_plan::clnp::laws::edited_pdus_are_pdus();
 }

@@ -6,11 +6,7 @@ pub mod attaching;
 pub mod laws;
 pub mod way;
 
-pub use clnp_plan::{clnp, clnp_base, clnp_options, clnp_views, esis_tables, forwarding};
-pub use echo;
-pub use error_reports;
-pub use reassembly;
-pub use segmenter;
+pub use clnp_plan::{clnp, hearing, options, routing, views};
 
 /// NSAP addresses, their prefixes, SNPAs, and targets.
 pub mod nsaps {
@@ -31,4 +27,29 @@ pub mod esis {
     pub use esis_pdus::{
         AddressList, EsisBody, EsisPdu, EsisRefusal, HelloRefusal, decode, esh, ish, rd,
     };
+}
+
+/// Octets and text.
+pub mod base {
+    pub use clnp_plan::base::{NoMemory, Octets};
+}
+
+/// The echo function.
+pub mod echoing {
+    pub use echo::{laws, matches, needs_id};
+}
+
+/// Error reports.
+pub mod reports {
+    pub use error_reports::{read, report};
+}
+
+/// Reassembly buffers.
+pub mod reassembling {
+    pub use reassembly::{Accept, Key, Segment, Shape, SlotNo, Table, TableLimits};
+}
+
+/// PDUs cut into segments.
+pub mod segmenting {
+    pub use segmenter::{Cut, Cuts, NotPermitted};
 }

@@ -2,7 +2,7 @@
 ghost use Rattle.std.specs.Prelude.{◌≡◌};
 ghost use Rattle.clnp_machine.specs.Step.{ends_at, hop_by};
 
-use clnp_plan::esis_tables::Neighbour;
+use clnp_plan::hearing::Neighbour;
 use clnp_plan::nsaps::{Address, Target};
 
 /// Where a PDU goes next: the number of a port, and whom a frame is for on its subnetwork.

@@ -3,8 +3,8 @@ ghost use Rattle.std.specs.Prelude.{◌≡◌, IfOk};
 ghost use Rattle.clnp_plan.specs.Configuration.{HasItsPorts, IsSystem};
 
 use forwarding::Route;
-use pdu_header::clnp_base::NoMemory;
-use pdu_header::nsap::{Address, Snpa};
+use pdu_header::base::NoMemory;
+use pdu_header::nsaps::{Address, Snpa};
 use std::alloc::Global;
 use std::marker::Model;
 

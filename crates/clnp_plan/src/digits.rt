@@ -5,7 +5,7 @@
 ghost use Rattle.std.specs.Prelude.{◌≡◌, ◌*◌, ◌/◌, ◌%◌, ◌++◌, length, map, slice_index, OnOk, OnErr};
 ghost use Rattle.hex.specs.Hex.{encode_lower, encode_with, lower_digits};
 
-use pdu_header::clnp_base::NoMemory;
+use pdu_header::base::NoMemory;
 use std::simd::prelude::*;
 
 /// Appends octets as hexadecimal digits in lower case, two an octet.

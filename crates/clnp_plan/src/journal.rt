@@ -11,8 +11,8 @@ use crate::line::{Word, kind_word, octets_word, on_or_off, push_line, target_tex
 use crate::note::{Note, Why};
 use esis_tables::{Heard, TableKind};
 use pdu_header::Kind;
-use pdu_header::clnp_base::{NoMemory, Octets};
-use pdu_header::nsap::{Address, Snpa, Target};
+use pdu_header::base::{NoMemory, Octets};
+use pdu_header::nsaps::{Address, Snpa, Target};
 use std::alloc::Global;
 
 /// Which lines of moves are written.

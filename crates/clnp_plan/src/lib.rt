@@ -12,8 +12,6 @@ mod output;
 
 pub use ask::{Ask, SendRefusal};
 pub use config::{Limits, PortConfig, Role, Settings, SystemConfig};
-pub use esis_tables;
-pub use forwarding;
 pub use journal::{
     Telling, injection_text, journal_text, late_text, loss_text, nobody_text, push_end,
     receipt_text, resize_text, transmission_text, void_text,
@@ -21,11 +19,10 @@ pub use journal::{
 pub use line::{Word, kind_word, octets_word, on_or_off, push_line, push_words, target_text};
 pub use note::{Note, Why};
 pub use output::{Output, Sending};
-pub use pdu_header::{clnp_base, clnp_options, clnp_views};
 
 /// NSAP addresses, their prefixes, SNPAs, and targets.
 pub mod nsaps {
-    pub use pdu_header::nsap::{Address, Prefix, Snpa, Target, laws};
+    pub use pdu_header::nsaps::{Address, Prefix, Snpa, Target, laws};
 }
 
 /// CLNP PDUs.
@@ -34,4 +31,32 @@ pub mod clnp {
         FIXED_PART, Header, HeaderRefusal, Kind, Parts, Pdu, Refusal, SEGMENTATION_PART, SegPart,
         decode, laws,
     };
+}
+
+/// Octets and text.
+pub mod base {
+    pub use pdu_header::base::{
+        DigitValues, InlineOctets, NoMemory, Octets, decimal, is_skipped, lines, next_line,
+        next_word, push, same, words,
+    };
+}
+
+/// The options part of a header.
+pub mod options {
+    pub use pdu_header::options::{OptionList, Reason, laws};
+}
+
+/// Octets handed on.
+pub mod views {
+    pub use pdu_header::views::{Frame, Head, View};
+}
+
+/// What is heard of neighbours.
+pub mod hearing {
+    pub use esis_tables::{EsisLimits, Gone, Heard, Neighbour, TableKind, Tables, laws};
+}
+
+/// Configured routes.
+pub mod routing {
+    pub use forwarding::{Route, RouteRefusal, Routes, laws};
 }

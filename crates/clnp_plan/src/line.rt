@@ -7,8 +7,8 @@ ghost use Rattle.pdu_header.specs.Kinds.{kind_word};
 
 use crate::digits::push_digits;
 use pdu_header::Kind;
-use pdu_header::clnp_base::{NoMemory, push, push_decimal, push_hex, push_number};
-use pdu_header::nsap::{Address, Prefix, Target};
+use pdu_header::base::{NoMemory, push, push_decimal, push_hex, push_number};
+use pdu_header::nsaps::{Address, Prefix, Target};
 
 /// A word of a line.
 #[derive(Clone, Copy)]

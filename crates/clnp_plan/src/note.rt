@@ -1,7 +1,7 @@
 use esis_tables::{Heard, TableKind};
 use pdu_header::Kind;
-use pdu_header::clnp_base::Octets;
-use pdu_header::nsap::{Address, Prefix, Snpa};
+use pdu_header::base::Octets;
+use pdu_header::nsaps::{Address, Prefix, Snpa};
 
 /// Why a unit wasn't made.
 #[derive(Clone, Copy, PartialEq, Eq)]

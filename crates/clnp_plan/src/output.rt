@@ -1,7 +1,7 @@
 //! What a system gives out.
 use crate::note::Note;
-use pdu_header::clnp_views::{Head, View};
-use pdu_header::nsap::Target;
+use pdu_header::nsaps::Target;
+use pdu_header::views::{Head, View};
 
 /// A frame that goes out on a port: the header's octets, and the data that follow them.
 #[derive(Drop)]

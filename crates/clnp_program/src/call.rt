@@ -8,7 +8,7 @@ ghost use Rattle.clnp_program.specs.Answers.{Answers, Ends, Informs, Runs, Write
 
 use crate::fault::{Fault, report, write_fault};
 use crate::help::information;
-use clnp_commands::clnp_base::{Clock, Sink, Source, write_all};
+use clnp_commands::base::{Clock, Sink, Source, write_all};
 use clnp_commands::{Advice, Ports, Status, clnp_main};
 use std::alloc::Global;
 

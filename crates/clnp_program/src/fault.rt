@@ -8,7 +8,7 @@ ghost use Rattle.clnp_program.specs.Faults.{fault_of};
 ghost use Rattle.clnp_program.specs.Texts.{behind_code, behind_fault, wanted};
 
 use arrayvec::ArrayString;
-use clnp_commands::clnp_base::{Failed, Sink, write_all};
+use clnp_commands::base::{Failed, Sink, write_all};
 use clnp_commands::code::{CUT_FILE, LINK_TYPE, MAGIC, NOT_PACKABLE, RECORD_LENGTH, VERSION};
 use clnp_commands::scenarios::Code;
 use clnp_commands::{Advice, Status};

@@ -8,5 +8,5 @@ mod help;
 mod pages;
 
 pub use call::{end, end_without_link, run};
-pub use clnp_commands::{Advice, Status, clnp_base, clnp_main, clnp_world, link_places, scenarios};
+pub use clnp_commands::{Advice, Status, base, clnp_main, link_places, scenarios, worlds};
 pub use fault::Fault;

@@ -371,8 +371,8 @@ fn laws_of_steps()
     machine::esis_pdus_break_no_rule();
     machine::octets_have_a_content();
     clnp_machine::attaching::attachments_stay_sound();
-    clnp_machine::clnp_options::laws::edits_keep_the_form();
-    clnp_machine::clnp_options::laws::edits_keep_options_formed();
+    clnp_machine::options::laws::edits_keep_the_form();
+    clnp_machine::options::laws::edits_keep_options_formed();
     clnp_machine::clnp::laws::edited_pdus_are_pdus();
-    clnp_machine::echo::laws::the_test_is_the_rule();
+    clnp_machine::echoing::laws::the_test_is_the_rule();
 }

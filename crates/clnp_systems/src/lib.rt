@@ -4,8 +4,7 @@
 mod sending;
 mod system;
 
-pub use end_system;
-pub use end_system::Input;
-pub use router;
+pub use end_system::{EndSystem, Input};
+pub use router::Router;
 pub use sending::sent_frame;
 pub use system::System;

@@ -2,9 +2,9 @@
 ghost use Rattle.std.specs.Prelude.{◌≡◌, ◌++◌, IfOk};
 ghost use Rattle.clnp_machine.specs.Given.{body_of, frame_in};
 
-use clnp_machine::clnp_base::NoMemory;
-use clnp_machine::clnp_views::Frame;
+use clnp_machine::base::NoMemory;
 use clnp_machine::system_plan::Sending;
+use clnp_machine::views::Frame;
 use std::alloc::Global;
 
 /// The frame that goes out: the header's octets, and the data that follow them.

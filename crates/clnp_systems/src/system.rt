@@ -12,9 +12,9 @@ ghost use Rattle.end_system.specs.SystemEntity.Steps.{Carries, IsSpentIn, MayCom
 ghost use Rattle.clnp_systems.specs.declared.system.System.TheVariants as variant;
 ghost use Rattle.clnp_systems.specs.Stands.{Stands, configuration_of, entity_of, role_of};
 
-use clnp_machine::clnp_base::NoMemory;
-use clnp_machine::forwarding::Route;
+use clnp_machine::base::NoMemory;
 use clnp_machine::nsaps::Prefix;
+use clnp_machine::routing::Route;
 use clnp_machine::system_plan::{Limits, Output, PortConfig, Role, SystemConfig};
 use end_system::{EndSystem, Input};
 use router::Router;

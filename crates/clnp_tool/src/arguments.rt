@@ -1,5 +1,5 @@
 //! The words of the command line.
-use clnp_program::clnp_base::NoMemory;
+use clnp_program::base::NoMemory;
 use std::env::FillError;
 use std::rt::Env;
 

@@ -7,11 +7,11 @@ mod opening;
 
 use crate::arguments::words;
 use crate::opening::open;
-use clnp_program::clnp_base::{HalfSeconds, StdSink, StdSource};
+use clnp_program::base::{HalfSeconds, StdSink, StdSource};
 use clnp_program::{Status, end, end_without_link, link_places, run};
 use std::io;
 use std::process::ExitCode;
-use udp_links::link_board::{Board, Link};
+use udp_links::links::{Board, Link};
 use udp_links::{LinkFault, Traffic};
 
 fn main(rt: HostRuntime) -> ExitCode {

@@ -1,7 +1,7 @@
 //! The links of the command line.
 use std::net::Net;
 use std::rt::Clock;
-use udp_links::link_words::is_link_word;
+use udp_links::words::is_link_word;
 use udp_links::{LinkFault, Traffic, UdpLink};
 
 /// The link of the word at a place, of this traffic.

@@ -4,9 +4,9 @@ ghost use Rattle.std.specs.List.{position};
 ghost use Rattle.clnp_network.specs.LabelledNetwork as network;
 ghost use Rattle.clnp_world.specs.Seen.{enters};
 
-use clnp_machine::clnp_views::Frame;
 use clnp_machine::nsaps::{Snpa, Target};
 use clnp_machine::system_plan::{PortConfig, Role};
+use clnp_machine::views::Frame;
 
 /// Who made what a frame carries, by its place among the declarations, and at which moment of its own clock. Where the frame
 /// came from outside nobody did, and the moment is one of the network's clock.

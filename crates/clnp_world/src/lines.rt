@@ -3,7 +3,7 @@ ghost use Rattle.std.specs.Prelude.{◌≡◌, ◌∷◌, ℕ, List, [], IfNone,
 ghost use Rattle.clnp_machine.specs.ClnpPlan.Journal.{Noted};
 ghost use Rattle.clnp_world.specs.Lines.{Counted, Gains, IsTooGreat, Taken, both, no_lines, tally, told_of};
 
-use clnp_machine::clnp_base::NoMemory;
+use clnp_machine::base::NoMemory;
 use clnp_machine::nsaps::{Snpa, Target};
 use clnp_machine::system_plan::Note;
 use std::alloc::Global;

@@ -6,7 +6,7 @@ ghost use Rattle.clnp_world.specs.Parts.{Holds};
 ghost use Rattle.clnp_world.specs.Stands.{StandEach};
 
 use crate::copy::FrameCopy;
-use clnp_machine::clnp_base::NoMemory;
+use clnp_machine::base::NoMemory;
 use clnp_machine::system_plan::Output;
 use clnp_network::scenarios::{Scenario, Subnet};
 use clnp_systems::System;

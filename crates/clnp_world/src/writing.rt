@@ -4,7 +4,7 @@ ghost use Rattle.clnp_machine.specs.ClnpPlan.Journal.{told_text};
 ghost use Rattle.clnp_world.specs.Lines.{Written, told_of};
 
 use crate::lines::{Line, LineSink};
-use clnp_machine::clnp_base::NoMemory;
+use clnp_machine::base::NoMemory;
 use clnp_machine::system_plan::{
     Telling, injection_text, journal_text, late_text, loss_text, nobody_text, receipt_text,
     resize_text, transmission_text, void_text,

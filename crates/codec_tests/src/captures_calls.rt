@@ -1,4 +1,4 @@
-use captures::clnp_base::DigitValues;
+use captures::base::DigitValues;
 use captures::{LineRefusal, Verdict, check_line, push_spelled, read_capture, show_line};
 use std::alloc::{AllocError, Global};
 

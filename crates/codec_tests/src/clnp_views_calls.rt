@@ -1,7 +1,7 @@
 ghost use Rattle.std.specs.Prelude.{◌≤◌, length};
 
-use captures::clnp_base::NoMemory;
-use captures::clnp_views::{Frame, View};
+use captures::base::NoMemory;
+use pdu_header::views::{Frame, View};
 
 /// Octets 7 to 12 of a frame, for a further owner.
 fn last_of(frame: &Frame) -> Result<View, NoMemory>

@@ -5,8 +5,6 @@
 #[cfg(test)]
 mod captures_calls;
 #[cfg(test)]
-mod clnp_base_calls;
-#[cfg(test)]
 mod clnp_options_calls;
 #[cfg(test)]
 mod clnp_views_calls;

@@ -1,4 +1,4 @@
-use captures::nsaps::{Address, NsapFault, Prefix, Snpa};
+use pdu_header::nsaps::{Address, NsapFault, Prefix, Snpa};
 
 const TWENTY: &[u8] = b"0102030405060708090a0b0c0d0e0f1011121314";
 

@@ -2,9 +2,9 @@
 ghost use Rattle.std.specs.Prelude.{◌≡◌, ℕ, IfSome};
 ghost use Rattle.segmenter.specs.PduHeader.Parts.{AreFit};
 
-use captures::clnp::{Header, Kind, Parts, decode, encode};
-use captures::clnp_options::OptionList;
-use captures::nsaps::Address;
+use pdu_header::nsaps::Address;
+use pdu_header::options::OptionList;
+use pdu_header::{Header, Kind, Parts, decode, encode};
 
 /// A data PDU of lifetime 10 with the data 6869, sealed.
 const FRAME: &[u8] =
@@ -14,8 +14,8 @@ const FRAME: &[u8] =
 fn plain() -> Option<Parts>
     ensures { IfSome result (λ parts. (body_len : ℕ) → AreFit parts body_len) }
 {
-    captures::clnp_options::laws::spelled_options_read_back();
-    captures::clnp_options::laws::reasons_stand_in_reports();
+    pdu_header::options::laws::spelled_options_read_back();
+    pdu_header::options::laws::reasons_stand_in_reports();
     let Ok(to) = Address::from_bytes(&[0x47, 0x00, 0x27, 0x01]) else {
         return None;
     };

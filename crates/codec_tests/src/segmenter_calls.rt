@@ -3,7 +3,7 @@ ghost use Rattle.std.specs.Prelude.{◌≤◌, IfSome};
 ghost use Rattle.std.specs.List.{AllByRecursion};
 ghost use Rattle.segmenter.specs.Left.{IsCutOf};
 
-use captures::clnp::{Header, decode};
+use pdu_header::{Header, decode};
 use segmenter::Cuts;
 
 /// The sealed header of a unit of 3,000 octets of data.

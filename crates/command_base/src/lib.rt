@@ -7,6 +7,14 @@ pub mod code;
 mod status;
 
 pub use block::{LineFault, LineStop, flush, flush_full, refuse, write_block, write_full_block};
-pub use clnp_base;
 pub use clnp_base::push_number;
 pub use status::Status;
+
+/// Octets and text, their sources and sinks, and clocks.
+pub mod base {
+    pub use clnp_base::{
+        Clock, DigitValues, Failed, HalfSeconds, HexFault, NoMemory, ReadStop, Sink, Source,
+        StdSink, StdSource, decimal, is_skipped, lines, next_line, next_word, push, push_decimal,
+        push_hex, push_unhex, read_all, same, write_all,
+    };
+}

@@ -4,8 +4,8 @@ ghost use Rattle.pdu_header.specs.Parts.{AreFit, parts_length, parts_value, too_
 ghost use Rattle.pdu_header.specs.View.{part_value, pdu_value};
 ghost use Rattle.echo.specs.Reply.{needs_identifier, part_of, plain_length, reply_of};
 
-use pdu_header::clnp_options::OptionList;
-use pdu_header::nsap::Address;
+use pdu_header::nsaps::Address;
+use pdu_header::options::OptionList;
 use pdu_header::{FIXED_PART, Kind, Parts, Pdu, SEGMENTATION_PART, SegPart};
 
 /// The octets of a PDU that every subnetwork takes in one piece.
@@ -31,7 +31,7 @@ pub fn reply(request: &Pdu<'_>, id: Option<u16>, life: u8, sealed: bool) -> Part
     ensures short { too_long (parts_length result) (length request.now.body.now) ≡ None }
 {
     // Its clause: no octets are no options.
-    pdu_header::clnp_options::laws::spelled_options_read_back();
+    pdu_header::options::laws::spelled_options_read_back();
     Parts {
         kind: Kind::Erp,
         life,

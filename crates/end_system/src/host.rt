@@ -19,12 +19,12 @@ ghost use Rattle.system_entity.specs.LocalEntity.Local.{IsWhy};
 ghost use Rattle.system_entity.specs.Steps.{Carries, IsSpentIn, MayCome, TakesStep, input_with};
 ghost use Rattle.end_system.specs.Stands.{IsLeftBy, Stands};
 
+use clnp_machine::base::NoMemory;
 use clnp_machine::clnp::Kind;
-use clnp_machine::clnp_base::NoMemory;
-use clnp_machine::clnp_views::Frame;
-use clnp_machine::esis_tables::Neighbour;
+use clnp_machine::hearing::Neighbour;
 use clnp_machine::nsaps::{Address, Snpa, Target};
 use clnp_machine::system_plan::{Ask, Limits, Note, Output, PortConfig, SendRefusal, SystemConfig};
+use clnp_machine::views::Frame;
 use std::alloc::Global;
 use std::marker::Model;
 use system_entity::{Arrival, Input, SystemEntity};

@@ -8,8 +8,8 @@ ghost use Rattle.pdu_header.specs.Parts.{AreFit, parts_length, parts_value};
 ghost use Rattle.pdu_header.specs.Rules.{header_of, is_reportable, refusal};
 ghost use Rattle.error_reports.specs.Report.{reason_option, report_of, source_of};
 
-use pdu_header::clnp_options::{OptionList, OptionRef};
-use pdu_header::nsap::Address;
+use pdu_header::nsaps::Address;
+use pdu_header::options::{OptionList, OptionRef};
 use pdu_header::{Header, Kind, Parts, ReportTo, reportable};
 
 /// The error report of a frame's discard.
@@ -75,8 +75,8 @@ fn reason_alone(code: u8, place: u8) -> OptionList
     ensures size { length (spelled (parameters result)) ≡ 4 }
 {
     // Their clauses: formed options break no rule of form, and what they spell reads back.
-    pdu_header::clnp_options::laws::formed_where_no_form_rule_is_broken();
-    pdu_header::clnp_options::laws::spelled_options_read_back();
+    pdu_header::options::laws::formed_where_no_form_rule_is_broken();
+    pdu_header::options::laws::spelled_options_read_back();
     let mut options = OptionList::new();
     let Ok(()) = options.push(OptionRef::Reason { code, place }) else {
         unreachable!()

@@ -8,7 +8,7 @@ ghost use Rattle.pdu_header.specs.View.{pdu_value};
 ghost use Rattle.error_reports.specs.Report.{reason_option};
 ghost use Rattle.error_reports.specs.Told.{Tells, cause_in, place_in};
 
-use pdu_header::clnp_options::first_option;
+use pdu_header::options::first_option;
 use pdu_header::{Kind, Pdu};
 
 /// The code of the reason for discard (ISO 8473, section 7.9.5).

@@ -13,9 +13,9 @@ ghost use Rattle.clnp_machine.specs.System.{SystemState, first_state, then_does}
 ghost use Rattle.esis_entity.specs.Does.{StaysInFront};
 ghost use Rattle.esis_entity.specs.Stands.{Stands, StandsSince};
 
-use clnp_machine::clnp_base::NoMemory;
+use clnp_machine::base::NoMemory;
 use clnp_machine::esis::EsisPdu;
-use clnp_machine::esis_tables::{EsisLimits, Neighbour, Tables};
+use clnp_machine::hearing::{EsisLimits, Neighbour, Tables};
 use clnp_machine::nsaps::{Address, Target};
 use clnp_machine::system_plan::{Output, SystemConfig};
 use hellos::hello;

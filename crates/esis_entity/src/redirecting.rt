@@ -7,9 +7,9 @@ ghost use Rattle.clnp_machine.specs.Given.{Appends};
 ghost use Rattle.clnp_machine.specs.System.{SystemState, SendsEsis};
 
 use crate::entity::output::send;
-use clnp_machine::clnp_base::NoMemory;
+use clnp_machine::base::NoMemory;
 use clnp_machine::esis::rd;
-use clnp_machine::esis_tables::Neighbour;
+use clnp_machine::hearing::Neighbour;
 use clnp_machine::nsaps::{Address, Snpa, Target};
 use clnp_machine::system_plan::{Output, SystemConfig};
 

@@ -5,7 +5,7 @@ ghost use Rattle.std.specs.Iterator.{YieldsFirstBy, item_count};
 ghost use Rattle.std.specs.Prelude.{◌≡◌, ◌+◌, IfSome, MatchOption, false, length, true};
 
 use crate::fields::field;
-use pdu_header::nsap::Address;
+use pdu_header::nsaps::Address;
 use std::marker::Model;
 
 /// The addresses of an end system hello in order, which are read off its frame (ISO 9542, section 7.6).

@@ -20,8 +20,8 @@ use crate::hello::TIMER;
 use crate::kind::{Kind, kind_of};
 use crate::pdu::{EsisBody, EsisPdu, EsisRefusal};
 use byteorder::{BigEndian, ByteOrder};
-use pdu_header::clnp_options::{first_option, place_of_unfit};
-use pdu_header::nsap::{Address, Snpa};
+use pdu_header::nsaps::{Address, Snpa};
+use pdu_header::options::{first_option, place_of_unfit};
 
 /// The first octet: the network layer protocol identifier of ISO 9542 (section 7.2).
 const PROTOCOL: u8 = 0x82;
@@ -164,7 +164,7 @@ fn has_right_checksum(head: &[u8]) -> bool
     requires at_most { length head.now ≤ 254 }
     ensures { result ≡ pdu_rules.has_right_checksum head.now }
 {
-    pdu_header::fletcher::is_right(head)
+    pdu_header::checksums::is_right(head)
 }
 
 /// The addresses of a header of this kind, and its options. Refuses by E8 to E10.

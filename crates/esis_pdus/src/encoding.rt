@@ -8,7 +8,7 @@ use crate::hello::push_title;
 use crate::kind::Kind;
 use crate::pdu::{EsisBody, EsisPdu};
 use crate::write::{MOST, begun, finished};
-use pdu_header::clnp_base::{InlineOctets, NoMemory};
+use pdu_header::base::{InlineOctets, NoMemory};
 use std::alloc::Global;
 
 /// Appends a PDU again, without what follows it in its frame (ISO 9542, section 7). Its checksum is made

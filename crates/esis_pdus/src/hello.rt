@@ -14,9 +14,9 @@ use crate::kind::Kind;
 use crate::pdu::EsisBody;
 use crate::write::{MOST, begun, finished};
 use byteorder::{BigEndian, ByteOrder};
-use pdu_header::clnp_base::InlineOctets;
-use pdu_header::clnp_views::Head;
-use pdu_header::nsap::{Address, Snpa};
+use pdu_header::base::InlineOctets;
+use pdu_header::nsaps::{Address, Snpa};
+use pdu_header::views::Head;
 
 /// The code of the suggested end system configuration timer (ISO 9542:1988).
 pub(crate) const TIMER: u8 = 0xc6;

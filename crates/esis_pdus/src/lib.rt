@@ -17,16 +17,22 @@ pub use decoder::decode;
 pub use encoding::encode;
 pub use hello::{HelloRefusal, esh, ish, rd};
 pub use pdu::{EsisBody, EsisPdu, EsisRefusal};
-pub use pdu_header::{clnp_base, clnp_options, clnp_views, fletcher};
+pub use pdu_header::options::first_option;
 
-/// NSAP addresses, their prefixes, and SNPAs.
+/// NSAP addresses.
 pub mod nsaps {
-    pub use pdu_header::nsap::{Address, NsapFault, Prefix, Snpa};
+    pub use pdu_header::nsaps::Address;
 }
 
 /// CLNP PDUs.
 pub mod clnp {
-    pub use pdu_header::{
-        Broken, Header, Kind, Parts, Pdu, Refusal, SegPart, decode, encode, laws,
+    pub use pdu_header::{Broken, Kind, Pdu, Refusal, SegPart, decode, laws};
+}
+
+/// Octets and text.
+pub mod base {
+    pub use pdu_header::base::{
+        DigitValues, HexFault, NoMemory, decimal, is_skipped, next_line, next_word, push,
+        push_decimal, push_hex, push_number, same, words,
     };
 }

@@ -1,5 +1,5 @@
 use crate::addresses::AddressList;
-use pdu_header::nsap::{Address, Snpa};
+use pdu_header::nsaps::{Address, Snpa};
 
 /// The kind of an ES-IS PDU and its addresses (ISO 9542, sections 7.6 to 7.8).
 #[derive(Drop)]

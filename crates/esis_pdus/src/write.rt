@@ -7,8 +7,8 @@ ghost use Rattle.std.specs.Prelude.{◌≡◌, ◌≤◌, length};
 
 use crate::kind::{Kind, type_of};
 use byteorder::{BigEndian, ByteOrder};
-use pdu_header::clnp_base::InlineOctets;
-use pdu_header::clnp_views::Head;
+use pdu_header::base::InlineOctets;
+use pdu_header::views::Head;
 
 /// The network layer protocol identifier of ISO 9542 (section 7.2).
 const PROTOCOL: u8 = 0x82;
@@ -49,7 +49,7 @@ pub(crate) fn finished(plain: &InlineOctets<MOST>, sealed: bool) -> Head
     head.copy_from_slice(octets);
     head[1] = octets.len() as u8;
     if sealed {
-        pdu_header::fletcher::seal(head);
+        pdu_header::checksums::seal(head);
     }
     Head::of(head)
 }

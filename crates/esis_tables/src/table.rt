@@ -14,7 +14,7 @@ ghost use Rattle.esis_tables.specs.State.{AreWalked, IsAt, IsGap, is_kept, is_ke
 use crate::fact::{Heard, Neighbour};
 use crate::table::hints::Hints;
 use crate::table::slots::Slots;
-use nsap::clnp_base::NoMemory;
+use nsap::base::NoMemory;
 use nsap::{Address, Snpa};
 use std::alloc::Global;
 use std::cmp::Ordering;

@@ -9,7 +9,7 @@ ghost use Rattle.esis_tables.specs.Stands.{FlushesFirst, Stands, limits_of};
 
 use crate::fact::{EsisLimits, Gone, Heard, Neighbour, TableKind};
 use crate::table::Table;
-use nsap::clnp_base::NoMemory;
+use nsap::base::NoMemory;
 use nsap::{Address, Snpa};
 use std::alloc::Global;
 

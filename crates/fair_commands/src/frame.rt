@@ -22,8 +22,8 @@ ghost use Rattle.fair_text.specs.FairReassembly.Coming.{value_in};
 ghost use Rattle.fair_text.specs.FairReassembly.Tables.{At, ChangesTable, FairState, IsAt, place_of};
 ghost use Rattle.fair_commands.specs.Frames.{GoesOn, Tells};
 
+use command_base::base::NoMemory;
 use fair_text::clnp::{Pdu, SegPart, decode};
-use fair_text::clnp_base::NoMemory;
 use fair_text::fair::{Accept, Came, FairTable, SlotNo, Took, laws};
 use fair_text::nsaps::Address;
 use fair_text::{Told, push_told};

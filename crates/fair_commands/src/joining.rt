@@ -14,8 +14,8 @@ ghost use Rattle.fair_commands.specs.Reassemble.{reassemble_task};
 ghost use Rattle.fair_commands.specs.Writing.{EndOf, JoinOf, TakenOf, UnderWay};
 
 use crate::frame::push_frame;
+use command_base::base::{Failed, Sink, lines};
 use command_base::{Status, flush, flush_full};
-use fair_text::clnp_base::{Failed, Sink, lines};
 use fair_text::fair::laws::what_is_told_goes_on;
 use fair_text::fair::{Came, FairTable};
 use fair_text::laws::an_accepted_text_is_in_range;

@@ -1,6 +1,6 @@
 //! Frames as they came.
 
-use pdu_header::clnp_views::Frame;
+use pdu_header::views::Frame;
 
 /// A frame, and the moment at which it came, in ticks of 500 ms.
 #[derive(Drop)]

@@ -18,10 +18,10 @@ ghost use Rattle.fair_reassembly.specs.declared.share.Share.{Share as ShareOf};
 
 use crate::outline::{Outline, of_unit};
 use crate::share::Share;
-use pdu_header::clnp_base::NoMemory;
-use pdu_header::clnp_views::View;
+use pdu_header::base::NoMemory;
 use pdu_header::decode;
-use pdu_header::nsap::Address;
+use pdu_header::nsaps::Address;
+use pdu_header::views::View;
 use reassembly::{Accept, Expired, Pieces, Segment, SlotNo, Table, TableLimits};
 use std::alloc::Global;
 use std::marker::Model;

@@ -10,5 +10,9 @@ mod share;
 
 pub use came::Came;
 pub use fair::{FairTable, Took};
-pub use reassembly;
 pub use share::Share;
+
+/// Reassembly buffers.
+pub mod reassembling {
+    pub use reassembly::{Accept, SlotNo, TableLimits};
+}

@@ -2,7 +2,7 @@
 ghost use Rattle.std.specs.Prelude.{◌≡◌, ◌+◌, ◌≤◌, length};
 ghost use Rattle.fair_reassembly.specs.Coming.{of_unit, outlined, segment_by};
 
-use pdu_header::clnp_views::View;
+use pdu_header::views::View;
 use pdu_header::{Pdu, SegPart};
 use reassembly::{Key, Segment, Shape};
 

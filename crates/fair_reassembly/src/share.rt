@@ -1,6 +1,6 @@
 //! Sources that have a share.
 
-use pdu_header::nsap::Address;
+use pdu_header::nsaps::Address;
 use reassembly::TableLimits;
 
 /// A source that has reassembly buffers of its own, and the numbers that these keep to.

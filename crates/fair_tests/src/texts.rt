@@ -1,6 +1,6 @@
 //! Texts of captured traffic: how many shares and frames one has, or its first bad line.
 
-use fair_text::clnp_base::lines;
+use fair_text::base::lines;
 use fair_text::{Capture, CaptureRefusal, read};
 use std::alloc::Global;
 use std::process::Abort;

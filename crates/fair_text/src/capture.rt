@@ -1,6 +1,6 @@
 //! What a text of captured traffic says.
 
-use fair_reassembly::reassembly::TableLimits;
+use fair_reassembly::reassembling::TableLimits;
 use fair_reassembly::{Came, Share};
 use std::marker::Model;
 

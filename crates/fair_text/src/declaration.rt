@@ -8,7 +8,7 @@ ghost use Rattle.fair_text.specs.Grammar.{are_few, budget_word, has_share, more_
 ghost use Rattle.fair_reassembly.specs.Tables.{limits_of};
 
 use fair_reassembly::Share;
-use fair_reassembly::reassembly::TableLimits;
+use fair_reassembly::reassembling::TableLimits;
 use scenario::nsaps::Address;
 use scenario::word::{address_word, five_words, literal, number_word};
 use scenario::{Code, LineFault};

@@ -6,7 +6,7 @@ ghost use Rattle.scenario.specs.Words.{frame_word};
 ghost use Rattle.fair_text.specs.Grammar.{frame_line, next_frame};
 
 use fair_reassembly::Came;
-use scenario::clnp_base::{DigitValues, same};
+use scenario::base::{DigitValues, same};
 use scenario::views::Frame;
 use scenario::word::{number_word, two_words};
 use scenario::{Code, LineFault};

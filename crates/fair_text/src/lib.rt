@@ -12,7 +12,6 @@ mod told;
 pub use capture::Capture;
 pub use fault::CaptureRefusal;
 pub use reader::read;
-pub use scenario::clnp_base;
 pub use told::{Told, push_end, push_told};
 
 /// NSAP addresses.
@@ -27,6 +26,11 @@ pub mod clnp {
 
 /// Reassembly with a share for each of some sources.
 pub mod fair {
-    pub use fair_reassembly::reassembly::{Accept, SlotNo};
+    pub use fair_reassembly::reassembling::{Accept, SlotNo};
     pub use fair_reassembly::{Came, FairTable, Took, laws};
+}
+
+/// Octets and text.
+pub mod base {
+    pub use scenario::base::lines;
 }

@@ -8,8 +8,8 @@ ghost use Rattle.scenario.specs.ClnpPlan.Words.{word_text};
 ghost use Rattle.fair_text.specs.Output.{end_line, told_line};
 ghost use Rattle.fair_text.specs.Telling.{told_by};
 
+use scenario::base::NoMemory;
 use scenario::clnp::Kind;
-use scenario::clnp_base::NoMemory;
 use scenario::nsaps::Address;
 use scenario::system_plan::{Word, kind_word, octets_word, push_line};
 

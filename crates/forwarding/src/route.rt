@@ -1,5 +1,5 @@
 //! A route, and why a list of routes is refused.
-use nsap::clnp_base::NoMemory;
+use nsap::base::NoMemory;
 use nsap::{Address, Prefix, Snpa};
 
 /// Where PDUs go whose destinations' addresses begin with a prefix.

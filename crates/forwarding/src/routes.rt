@@ -13,7 +13,7 @@ ghost use Rattle.forwarding.specs.Setting.{set_in, without};
 ghost use Rattle.forwarding.specs.Stands.{Stands};
 
 use crate::route::{Route, RouteRefusal};
-use nsap::clnp_base::NoMemory;
+use nsap::base::NoMemory;
 use nsap::{Address, Prefix};
 use std::alloc::Global;
 use std::array::from_fn;

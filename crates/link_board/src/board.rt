@@ -5,8 +5,8 @@ ghost use Rattle.link_board.specs.Ports.{ChangesPort, KeepsAttached, KeepsOthers
 use crate::link::{Got, Link};
 use crate::port::Port;
 use crate::ports::{Polled, Ports, Sent};
+use clnp_base::NoMemory;
 use nsap::Target;
-use nsap::clnp_base::NoMemory;
 use std::alloc::Global;
 
 /// Ports, and a boxed link for each. A link that fails is detached: it stays in the board as that call left it, is never

@@ -2,7 +2,7 @@
 ghost use Rattle.std.specs.Prelude.{◌≤◌, ◌++◌, length, IfOk, IfSome};
 ghost use Rattle.link_board.specs.Links.{LinkState, PollOf, SendOf};
 
-use nsap::clnp_base::Failed;
+use clnp_base::Failed;
 use nsap::{Snpa, Target};
 
 /// A frame that came, whose octets stand at the front of the buffer.

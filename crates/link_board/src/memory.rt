@@ -5,7 +5,7 @@ ghost use Rattle.link_board.specs.Memory.{after_fault, after_look, after_send, c
 
 use crate::link::{Got, Link};
 use crate::outbox::Outbox;
-use nsap::clnp_base::{Failed, NoMemory, Octets};
+use clnp_base::{Failed, NoMemory, Octets};
 use nsap::{Snpa, Target};
 use std::alloc::Global;
 use std::marker::Model;

@@ -2,8 +2,8 @@
 ghost use Rattle.std.specs.Prelude.{◌≡◌, ◌+◌, ◌≤◌, ◌∷◌, ◌++◌, [], length, nat_le, true, vec_capacity, vec_len, IfOk};
 ghost use Rattle.link_board.specs.Outbox.{has_room};
 
+use clnp_base::NoMemory;
 use nsap::Target;
-use nsap::clnp_base::NoMemory;
 use std::alloc::Global;
 use std::marker::Model;
 

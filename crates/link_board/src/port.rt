@@ -4,8 +4,8 @@ ghost use Rattle.link_board.specs.Ports.{PolledOf, SentOf, without_gone};
 
 use crate::link::{Got, Link};
 use crate::ports::{Polled, Sent};
+use clnp_base::Failed;
 use nsap::Target;
-use nsap::clnp_base::Failed;
 
 /// A port: its link, until that is dropped, and whether the link is attached.
 #[derive(Drop)]

@@ -1,7 +1,7 @@
 //! Calls of boards.
 use crate::noting::{Notes, NotingLink, link_of, no_notes};
-use link_board::clnp_base::NoMemory;
-use link_board::nsap::Target;
+use link_board::base::NoMemory;
+use link_board::nsaps::Target;
 use link_board::{Board, Link, Polled, Ports, Sent};
 use std::alloc::Global;
 use std::cell::RefCell;

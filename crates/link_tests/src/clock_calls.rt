@@ -2,7 +2,7 @@
 ghost use Rattle.std.specs.Prelude.{IfOk};
 ghost use Rattle.link_board.specs.ClnpBase.Moments.{AreMoments};
 
-use link_board::clnp_base::{Clock, HalfSeconds, MemClock};
+use link_board::base::{Clock, HalfSeconds, MemClock};
 use std::alloc::{AllocError, Global};
 
 /// Moments of a clock.

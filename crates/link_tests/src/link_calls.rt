@@ -2,8 +2,8 @@
 ghost use Rattle.std.specs.Prelude.{◌≤◌, length};
 
 use crate::noting::link_of;
-use link_board::clnp_base::Failed;
-use link_board::nsap::{Snpa, Target};
+use link_board::base::Failed;
+use link_board::nsaps::{Snpa, Target};
 use link_board::{Got, Link};
 use std::process::Abort;
 

@@ -3,7 +3,7 @@ ghost use Rattle.std.specs.Prelude.{◌≡◌};
 ghost use Rattle.link_words.specs.Ends.{end_at, snpa_of};
 
 use nsap::Snpa;
-use nsap::clnp_base::InlineOctets;
+use nsap::base::InlineOctets;
 
 /// An end of links over UDP: an IPv4 address, and a port.
 #[derive(Clone, Copy, Debug, Default, PartialEq, Eq)]

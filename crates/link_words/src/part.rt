@@ -3,7 +3,7 @@ ghost use Rattle.std.specs.Prelude.{◌≡◌, ◌<◌, ◌≤◌, ◌==◌, ◌
 ghost use Rattle.std.specs.List.{position};
 ghost use Rattle.link_words.specs.Words.{number_of, parts_at, parts_left};
 
-use nsap::clnp_base::decimal;
+use nsap::base::decimal;
 
 /// Where a mark first stands in a text.
 fn place_of(mark: u8, text: &[u8]) -> Option<usize>

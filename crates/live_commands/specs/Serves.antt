@@ -4,7 +4,7 @@ use Rattle.command_base.specs.ComesAs.{most_input}
 use Rattle.command_base.specs.Reading.{Excuses, ReadsWhole, TakesTooMany, TakesWithin}
 use Rattle.command_base.specs.declared.status.Status.{Status}
 use Rattle.command_base.specs.declared.status.Status.TheVariants.{Done, BadWords, TooLong, BadInput, WorldFull, ReadFault, WriteFault, LinksGone, NoMemory}
-use Rattle.link_board.specs.Ports.{PortState}
+use Rattle.live_node.specs.LinkBoard.Ports.{PortState}
 use Rattle.scenario.specs.Grammar.{BadLine, run_plan_of}
 use Rattle.scenario.specs.Scenario.{Plan}
 use Rattle.live_node.specs.Ran.{RanOf}

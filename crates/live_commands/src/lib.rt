@@ -3,5 +3,5 @@
 
 mod run;
 
-pub use link_board::Ports;
+pub use live_node::boards::Ports;
 pub use run::run_system;

@@ -8,8 +8,8 @@ ghost use Rattle.live_node.specs.Ran.{RanOf};
 ghost use Rattle.scenario.specs.Scenario.{IsForBoard};
 
 use command_base::Status;
-use link_board::Ports;
-use link_board::clnp_base::{Clock, ReadStop, Sink, Source, read_all};
+use command_base::base::{Clock, ReadStop, Sink, Source, read_all};
+use live_node::boards::Ports;
 use live_node::{RunStop, run_node};
 use scenario::{Scenario, ScenarioRefusal, read_for_run};
 use scenario_advice::{Advice, of_scenario_for_run};

@@ -1,3 +1,4 @@
+pub use Rattle.link_board.specs as LinkBoard
 pub mod Outputs
 pub mod Links
 pub mod Plays

@@ -10,3 +10,8 @@ mod run;
 mod turns;
 
 pub use run::{RunStop, run_node};
+
+/// What a board of links is to a node.
+pub mod boards {
+    pub use link_board::Ports;
+}

@@ -6,10 +6,10 @@ ghost use Rattle.clnp_machine.specs.ClnpPlan.Journal.{Noted, Transmitted};
 ghost use Rattle.live_model.specs.Lines.{LinkGone, Says, node_line_text};
 
 use crate::node::Stop;
-use clnp_machine::clnp_base::{NoMemory, Sink, push, push_decimal, write_all};
-use clnp_machine::clnp_views::Frame;
 use clnp_machine::nsaps::Target;
 use clnp_machine::system_plan::{Note, journal_text, transmission_text};
+use clnp_machine::views::Frame;
+use link_board::base::{NoMemory, Sink, push, push_decimal, write_all};
 use std::alloc::Global;
 
 /// Writes the line of a note of a system.

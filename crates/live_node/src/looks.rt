@@ -7,10 +7,10 @@ ghost use Rattle.live_node.specs.Plays.{Breaks, Plays, Stands};
 
 use crate::lines::write_loss;
 use crate::node::{LiveNode, Stop};
-use clnp_machine::clnp_base::Sink;
-use clnp_machine::clnp_views::Frame;
 use clnp_machine::nsaps::Snpa;
+use clnp_machine::views::Frame;
 use clnp_systems::Input;
+use link_board::base::Sink;
 use link_board::{Polled, Ports};
 use std::alloc::Global;
 

@@ -8,10 +8,10 @@ ghost use Rattle.clnp_machine.specs.ClnpBase.Streams.{Rose};
 ghost use Rattle.live_model.specs.Node as model;
 ghost use Rattle.live_node.specs.Plays.{Breaks, Plays, Stands};
 
-use clnp_machine::clnp_base::{NoMemory, Sink};
 use clnp_machine::system_plan::{Limits, SystemConfig};
 use clnp_systems::{Input, System};
 use link_board::Ports;
+use link_board::base::{NoMemory, Sink};
 use std::alloc::Global;
 
 /// Why a turn was broken off.

@@ -9,9 +9,9 @@ ghost use Rattle.clnp_machine.specs.Given.{frame_in};
 
 use crate::lines::{write_loss, write_note, write_transmission};
 use crate::node::{LiveNode, Stop};
-use clnp_machine::clnp_base::Sink;
 use clnp_machine::system_plan::{Output, Sending};
 use clnp_systems::sent_frame;
+use link_board::base::Sink;
 use link_board::{Ports, Sent};
 use std::alloc::Global;
 

@@ -17,9 +17,9 @@ ghost use Rattle.live_node.specs.Ran.{IsBroken, RanOf, RanTo, StopsIn, broken_by
 
 use crate::agenda::Agenda;
 use crate::node::{LiveNode, Stop};
-use clnp_machine::clnp_base::{Clock, NoMemory, Sink, write_all};
 use clnp_machine::system_plan::push_end;
 use link_board::Ports;
+use link_board::base::{Clock, NoMemory, Sink, write_all};
 use scenario::Scenario;
 use std::alloc::Global;
 

@@ -13,12 +13,12 @@ ghost use Rattle.live_node.specs.Plays.{Breaks, Plays, Stands};
 
 use crate::agenda::Agenda;
 use crate::node::{LiveNode, Stop};
-use clnp_machine::clnp_base::Sink;
-use clnp_machine::clnp_views::Frame;
 use clnp_machine::nsaps::Address;
 use clnp_machine::system_plan::{Ask, Role};
+use clnp_machine::views::Frame;
 use clnp_systems::Input;
 use link_board::Ports;
+use link_board::base::Sink;
 use scenario::{Body, Event, Scenario};
 use std::alloc::Global;
 

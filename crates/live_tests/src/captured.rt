@@ -1,7 +1,7 @@
 //! A run over a link that plays an Ethernet capture.
 
 use crate::clock::moments;
-use link_board::clnp_base::{MemClock, MemSink, lines};
+use link_board::base::{MemClock, MemSink, lines};
 use link_board::{Board, Link};
 use live_node::run_node;
 use pcap_link::PcapLink;

@@ -2,7 +2,7 @@
 
 use crate::clock::moments;
 use crate::noting::{is_dropped, no_notes, noting_link};
-use link_board::clnp_base::{MemClock, MemSink, lines};
+use link_board::base::{MemClock, MemSink, lines};
 use link_board::{Board, Link, Ports};
 use live_node::{RunStop, run_node};
 use scenario::read_for_run;

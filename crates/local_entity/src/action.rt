@@ -1,8 +1,8 @@
 //! What the entity of a system does at the system's own addresses.
 use clnp_machine::clnp::{Header, Kind};
-use clnp_machine::clnp_views::View;
 use clnp_machine::nsaps::Address;
 use clnp_machine::system_plan::Note;
+use clnp_machine::views::View;
 
 /// A data unit that was made: its number among the system's units, its destination, the header of its initial PDU, and its
 /// data.

@@ -20,13 +20,13 @@ ghost use Rattle.local_entity.specs.Pool.{Stands as StandsFor};
 use crate::action::{Action, Draft, Made};
 use crate::pending::{Pending, Request};
 use crate::pool::{DrawRefusal, IdPool};
+use clnp_machine::base::NoMemory;
 use clnp_machine::clnp::{
     FIXED_PART, Header, HeaderRefusal, Kind, Parts, SEGMENTATION_PART, SegPart,
 };
-use clnp_machine::clnp_base::NoMemory;
-use clnp_machine::clnp_views::{Frame, View};
 use clnp_machine::nsaps::Address;
 use clnp_machine::system_plan::{Ask, Note, SendRefusal, SystemConfig};
+use clnp_machine::views::{Frame, View};
 use std::alloc::Global;
 
 mod delivery;

@@ -14,12 +14,12 @@ ghost use Rattle.local_entity.specs.Local.{Appends, IsWhy, Stands};
 
 use crate::action::Action;
 use crate::endpoint::Endpoint;
+use clnp_machine::base::NoMemory;
 use clnp_machine::clnp::Kind;
-use clnp_machine::clnp_base::NoMemory;
-use clnp_machine::clnp_views::Frame;
 use clnp_machine::nsaps::Address;
-use clnp_machine::reassembly::{Table, TableLimits};
+use clnp_machine::reassembling::{Table, TableLimits};
 use clnp_machine::system_plan::{Ask, Limits, SendRefusal, SystemConfig};
+use clnp_machine::views::Frame;
 use std::alloc::Global;
 use std::marker::Model;
 

@@ -7,11 +7,11 @@ ghost use Rattle.clnp_machine.specs.Local.{is_answer, with_made, without_answere
 ghost use Rattle.local_entity.specs.Local.{AreRequests, IsRequest};
 ghost use Rattle.local_entity.specs.Pending.{answers, request_of};
 
+use clnp_machine::base::NoMemory;
 use clnp_machine::clnp::Kind;
-use clnp_machine::clnp_base::NoMemory;
-use clnp_machine::clnp_views::View;
-use clnp_machine::echo::matches;
+use clnp_machine::echoing::matches;
 use clnp_machine::nsaps::Address;
+use clnp_machine::views::View;
 use std::alloc::Global;
 use std::marker::Model;
 

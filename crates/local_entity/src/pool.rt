@@ -3,7 +3,7 @@ ghost use Rattle.std.specs.Prelude.{◌≡◌, ◌<◌, ◌≤◌, ◌+◌, ◌%
 ghost use Rattle.clnp_machine.specs.Identifiers.{Identifiers, after_use, drawn, next, not_drawn, opening, restarted};
 ghost use Rattle.local_entity.specs.Pool.{Stands, told};
 
-use clnp_machine::clnp_base::NoMemory;
+use clnp_machine::base::NoMemory;
 use std::alloc::Global;
 use std::marker::Model;
 

@@ -6,7 +6,7 @@ ghost use Rattle.clnp_machine.specs.PduHeader.View.{pdu_value};
 ghost use Rattle.local_entity.specs.Receipt.{purpose_of};
 
 use clnp_machine::clnp::{Kind, Pdu};
-use clnp_machine::error_reports::read;
+use clnp_machine::reports::read;
 
 /// What a unit is for, once it is whole.
 #[derive(Clone, Copy, PartialEq, Eq)]

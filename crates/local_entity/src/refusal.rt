@@ -2,7 +2,7 @@
 ghost use Rattle.std.specs.Prelude.{◌≡◌, IfOk, OnErr, Some};
 ghost use Rattle.local_entity.specs.Local as local_entity;
 
-use clnp_machine::clnp_base::NoMemory;
+use clnp_machine::base::NoMemory;
 use clnp_machine::system_plan::{Note, SendRefusal, Why};
 
 /// What is noted of a unit that isn't made.

@@ -17,11 +17,11 @@ ghost use Rattle.local_entity.specs.Local.{Does};
 ghost use Rattle.local_entity.specs.Sending.{transmission};
 
 use crate::action::Made;
-use clnp_machine::clnp_base::NoMemory;
-use clnp_machine::clnp_options::Reason;
-use clnp_machine::clnp_views::View;
-use clnp_machine::segmenter::{Cut, Cuts, NotPermitted};
+use clnp_machine::base::NoMemory;
+use clnp_machine::options::Reason;
+use clnp_machine::segmenting::{Cut, Cuts, NotPermitted};
 use clnp_machine::system_plan::{Note, Output, PortConfig, Sending};
+use clnp_machine::views::View;
 use clnp_machine::way::Hop;
 
 /// Sends a unit in pieces to where it goes next, by one of these ports, or notes that it may not be cut, or that there is no way

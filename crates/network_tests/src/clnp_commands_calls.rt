@@ -1,6 +1,6 @@
-use clnp_machine::clnp_base::{Failed, MemClock, MemSink, MemSource, Sink};
 use clnp_program::{Advice, Status, clnp_main};
 use link_board::Board;
+use link_board::base::{Failed, MemClock, MemSink, MemSource, Sink};
 use std::alloc::Global;
 use std::process::Abort;
 

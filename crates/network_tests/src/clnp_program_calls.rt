@@ -1,6 +1,6 @@
-use clnp_machine::clnp_base::{MemClock, MemSink, MemSource};
 use clnp_program::{Status, end, run};
 use link_board::Board;
+use link_board::base::{MemClock, MemSink, MemSource};
 use std::alloc::Global;
 use std::process::Abort;
 

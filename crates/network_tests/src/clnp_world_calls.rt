@@ -1,7 +1,7 @@
-use clnp_machine::clnp_base::lines;
 use clnp_machine::system_plan::Telling;
-use clnp_program::clnp_world::{Counts, Move, World};
 use clnp_program::scenarios::{Scenario, read};
+use clnp_program::worlds::{Counts, Move, World};
+use link_board::base::lines;
 use std::alloc::Global;
 use std::process::Abort;
 

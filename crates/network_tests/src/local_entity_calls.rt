@@ -3,12 +3,12 @@ ghost use Rattle.clnp_machine.specs.ClnpOptions.Grammar.{FitsKind};
 ghost use Rattle.clnp_machine.specs.ClnpOptions.Parameter.{parameters};
 
 use clnp_machine::clnp::{Kind, decode};
-use clnp_machine::clnp_base::{NoMemory, lines, push, push_decimal};
-use clnp_machine::clnp_options::{OptionList, laws};
-use clnp_machine::clnp_views::Frame;
 use clnp_machine::nsaps::Address;
+use clnp_machine::options::{OptionList, laws};
 use clnp_machine::system_plan::{Ask, Limits, SystemConfig, journal_text};
+use clnp_machine::views::Frame;
 use clnp_program::scenarios::{Scenario, read};
+use link_board::base::{NoMemory, lines, push, push_decimal};
 use local_entity::{Action, DrawRefusal, IdPool, Local};
 use std::alloc::Global;
 use std::process::Abort;

@@ -16,4 +16,11 @@ pub use crate::fault::NsapFault;
 pub use crate::prefix::Prefix;
 pub use crate::snpa::Snpa;
 pub use crate::target::Target;
-pub use clnp_base;
+
+/// Octets and text.
+pub mod base {
+    pub use clnp_base::{
+        DigitValues, Failed, HexFault, InlineOctets, NoMemory, Octets, decimal, is_skipped, lines,
+        next_line, next_word, push, push_decimal, push_hex, push_number, push_unhex, same, words,
+    };
+}

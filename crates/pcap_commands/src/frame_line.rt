@@ -8,9 +8,9 @@ ghost use Rattle.pcap_commands.specs.ReadLine.{PduOf, ReadOf, frame_value, words
 
 use crate::stations::{read_destination, read_station};
 use command_base::LineFault;
-use command_base::clnp_base::{HexFault, decimal, next_word, push_unhex};
+use command_base::base::{HexFault, decimal, next_word, push_unhex};
 use command_base::code::{ADDRESS, COUNT, NUMBER, SYNTAX};
-use pcap_frames::nsap::Snpa;
+use pcap_frames::nsaps::Snpa;
 
 /// The most octets of a PDU in a frame.
 const MOST_PDU: usize = 1497;

@@ -9,9 +9,9 @@ ghost use Rattle.pcap_commands.specs.Stations.{destination_word, frame_line};
 use crate::form::Form;
 use crate::stations::push_destination;
 use captures::many::show_line;
-use command_base::clnp_base::{NoMemory, push, push_decimal, push_hex};
+use command_base::base::{NoMemory, push, push_decimal, push_hex};
 use command_base::push_number;
-use pcap_frames::nsap::Snpa;
+use pcap_frames::nsaps::Snpa;
 use pcap_frames::{Record, Seen, see};
 
 /// Appends the line of the record with this number, from 1, and its end.

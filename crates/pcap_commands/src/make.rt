@@ -11,7 +11,7 @@ ghost use Rattle.pcap_commands.specs.Make.{make_task, making};
 ghost use Rattle.pcap_commands.specs.ReadLine.{frame_value};
 
 use crate::frame_line::{Envelope, read_frame};
-use command_base::clnp_base::{Sink, is_skipped, next_line};
+use command_base::base::{Sink, is_skipped, next_line};
 use command_base::{LineFault, LineStop, Status, flush, refuse, write_block, write_full_block};
 use pcap_frames::{put_frame, put_header};
 use std::alloc::Global;

@@ -2,8 +2,8 @@
 ghost use Rattle.std.specs.Prelude.{◌≡◌, ◌++◌, OnOk};
 ghost use Rattle.pcap_commands.specs.Stations.{destination_of, destination_word, station_of};
 
-use command_base::clnp_base::{NoMemory, push, push_hex, same};
-use pcap_frames::nsap::Snpa;
+use command_base::base::{NoMemory, push, push_hex, same};
+use pcap_frames::nsaps::Snpa;
 use pcap_frames::{END_SYSTEMS, INTERMEDIATE_SYSTEMS};
 
 /// Appends the word of a destination: `es`, `is`, or its hexadecimal digits in lower case.

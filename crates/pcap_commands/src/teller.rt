@@ -9,7 +9,7 @@ ghost use Rattle.pcap_commands.specs.Underway.{FedOf, FinishOf, TookOf, Underway
 use crate::answer::{cut_answer, fault_answer};
 use crate::form::Form;
 use crate::lines::push_record;
-use command_base::clnp_base::{NoMemory, Sink};
+use command_base::base::{NoMemory, Sink};
 use command_base::{Status, write_block, write_full_block};
 use pcap_frames::PcapReader;
 use std::alloc::Global;

@@ -12,7 +12,7 @@ use crate::form::Form;
 use crate::teller::Teller;
 use captures::laws;
 use command_base::Status;
-use command_base::clnp_base::{Sink, Source};
+use command_base::base::{Sink, Source};
 use std::alloc::Global;
 
 /// The most octets of a file.

@@ -25,9 +25,17 @@ pub use group::{END_SYSTEMS, INTERMEDIATE_SYSTEMS};
 pub use header::judge_header;
 pub use in_place::first_record;
 pub use making::{put_frame, put_header};
-pub use nsap;
-pub use nsap::clnp_base;
 pub use order::Order;
 pub use reader::PcapReader;
 pub use seeing::{Seen, see};
 pub use taking::{HEADER, RECORD_HEADER, Took};
+
+/// Octets and text.
+pub mod base {
+    pub use nsap::base::{Failed, NoMemory, push, push_decimal, push_hex, push_unhex};
+}
+
+/// Addresses on a subnetwork.
+pub mod nsaps {
+    pub use nsap::{Snpa, Target};
+}

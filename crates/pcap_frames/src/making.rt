@@ -7,7 +7,7 @@ ghost use Rattle.pcap_frames.specs.Making.{made_header, made_record};
 use crate::order::Order;
 use byteorder::{BigEndian, ByteOrder};
 use nsap::Snpa;
-use nsap::clnp_base::NoMemory;
+use nsap::base::NoMemory;
 
 /// The header of each file that is made: microseconds, version 2.4, no zone, no accuracy, a snap length of 262,144
 /// octets, and Ethernet.
@@ -28,7 +28,7 @@ pub fn put_header(out: &mut Vec<u8>) -> Result<(), NoMemory>
     ensures written { OnOk result (out.new.items ≡ out.old.items ++ header_octets Order.HighFirst made_header) }
     ensures same { OnErr result (out.new.items ≡ out.old.items) }
 {
-    nsap::clnp_base::push(&HEADER, out)
+    nsap::base::push(&HEADER, out)
 }
 
 /// The most octets of zeros behind a PDU of one octet.

@@ -4,7 +4,7 @@ use crate::fault::{CutFile, PcapFault};
 use crate::in_place::read_record;
 use crate::stage::Stage;
 use crate::taking::{MOST_HELD, Took, take_next};
-use nsap::clnp_base::NoMemory;
+use nsap::base::NoMemory;
 use std::alloc::Global;
 use std::marker::Model;
 

@@ -6,4 +6,8 @@ mod link;
 mod walk;
 
 pub use link::PcapLink;
-pub use link_board;
+
+/// Links.
+pub mod links {
+    pub use link_board::{Got, Link};
+}

@@ -8,8 +8,8 @@ ghost use Rattle.pcap_link.specs.Frames.{frames_of};
 ghost use Rattle.pcap_link.specs.Playing.{after_look, at_first, state_of};
 
 use crate::walk::{next_frame, order_of};
-use link_board::clnp_base::Failed;
-use link_board::nsap::Target;
+use link_board::base::Failed;
+use link_board::nsaps::Target;
 use link_board::{Got, Link};
 use pcap_frames::{HEADER, Order};
 use std::marker::Model;

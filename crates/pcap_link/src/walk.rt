@@ -6,7 +6,7 @@ ghost use Rattle.pcap_frames.specs.Frames.{seen_in};
 ghost use Rattle.pcap_link.specs.Frames.{came_of, is_group};
 ghost use Rattle.pcap_link.specs.Walk.{HeaderTells, came_found, frames_from};
 
-use pcap_frames::nsap::Snpa;
+use pcap_frames::nsaps::Snpa;
 use pcap_frames::{
     END_SYSTEMS, HEADER, INTERMEDIATE_SYSTEMS, Order, RECORD_HEADER, Seen, first_record,
     judge_header, see,

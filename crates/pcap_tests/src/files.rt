@@ -2,7 +2,7 @@
 ghost use Rattle.std.specs.Prelude.{◌≤◌};
 
 use crate::told::is_told;
-use pcap_frames::clnp_base::push_unhex;
+use pcap_frames::base::push_unhex;
 use pcap_frames::{PcapFault, PcapReader};
 use std::alloc::{AllocError, Global};
 

@@ -1,6 +1,6 @@
 //! Frames at the bounds of each field.
 use crate::told::tell_seen;
-use pcap_frames::clnp_base::push_unhex;
+use pcap_frames::base::push_unhex;
 use std::alloc::Global;
 
 /// A frame in hexadecimal digits, and what is seen in it.

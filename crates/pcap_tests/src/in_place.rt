@@ -1,6 +1,6 @@
 //! Records read where they stand.
 use crate::told::tell_record;
-use pcap_frames::clnp_base::{push, push_unhex};
+use pcap_frames::base::{push, push_unhex};
 use pcap_frames::{HEADER, first_record, judge_header};
 use std::alloc::Global;
 

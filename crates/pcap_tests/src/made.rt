@@ -1,6 +1,6 @@
 //! Files made.
-use pcap_frames::clnp_base::{NoMemory, push_hex, push_unhex};
-use pcap_frames::nsap::Snpa;
+use pcap_frames::base::{NoMemory, push_hex, push_unhex};
+use pcap_frames::nsaps::Snpa;
 use pcap_frames::{put_frame, put_header};
 use std::alloc::Global;
 

@@ -2,11 +2,11 @@
 ghost use Rattle.std.specs.Prelude.{◌≤◌, length};
 
 use crate::made::put;
-use pcap_frames::clnp_base::{Failed, NoMemory, push, push_hex, push_unhex};
-use pcap_frames::nsap::Target;
+use pcap_frames::base::{Failed, NoMemory, push, push_hex, push_unhex};
+use pcap_frames::nsaps::Target;
 use pcap_frames::put_header;
 use pcap_link::PcapLink;
-use pcap_link::link_board::{Got, Link};
+use pcap_link::links::{Got, Link};
 use std::alloc::Global;
 
 /// A file, its first 24 octets and what follows, in hexadecimal digits; how many looks are made, and what they see.

@@ -1,7 +1,7 @@
 //! What a reader and a look into frames tell, as text.
 ghost use Rattle.std.specs.Prelude.{◌≤◌};
 
-use pcap_frames::clnp_base::{NoMemory, push, push_decimal, push_hex};
+use pcap_frames::base::{NoMemory, push, push_decimal, push_hex};
 use pcap_frames::{PcapFault, PcapReader, Record, Seen, see};
 use std::alloc::Global;
 

@@ -11,7 +11,7 @@ ghost use Rattle.pdu_header.specs.Headers.{IsEdited};
 
 use crate::adjusting;
 use crate::layout::MOST_HEADER;
-use nsap::clnp_base::InlineOctets;
+use nsap::base::InlineOctets;
 
 /// Makes the checksum.
 pub(crate) fn seal(cells: &mut InlineOctets<MOST_HEADER>)

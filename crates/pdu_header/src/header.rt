@@ -22,7 +22,7 @@ use crate::write::{header_len, written};
 use byteorder::{BigEndian, ByteOrder};
 use clnp_views::Head;
 use nsap::Address;
-use nsap::clnp_base::InlineOctets;
+use nsap::base::InlineOctets;
 use std::marker::Model;
 
 /// Why no header can be made.

@@ -14,16 +14,42 @@ mod pdu;
 mod report;
 mod write;
 
-pub use clnp_options;
-pub use clnp_views;
 pub use decoder::decode;
 pub use encoding::{EncodeRefusal, encode};
-pub use fletcher;
 pub use header::{Header, HeaderRefusal};
 pub use kind::Kind;
 pub use layout::{FIXED_PART, SEGMENTATION_PART};
-pub use nsap;
-pub use nsap::clnp_base;
 pub use parts::Parts;
 pub use pdu::{Broken, Pdu, Refusal, ReportTo, SegPart};
 pub use report::reportable;
+
+/// Octets and text.
+pub mod base {
+    pub use nsap::base::{
+        DigitValues, HexFault, InlineOctets, NoMemory, Octets, decimal, is_skipped, lines,
+        next_line, next_word, push, push_decimal, push_hex, push_number, same, words,
+    };
+}
+
+/// NSAP addresses, their prefixes, SNPAs, and targets.
+pub mod nsaps {
+    pub use nsap::{Address, NsapFault, Prefix, Snpa, Target, laws};
+}
+
+/// The options part of a header.
+pub mod options {
+    pub use clnp_options::{
+        OptionList, OptionRef, Reason, advance_route, check, first_option, is_route_complete, laws,
+        mark_congestion, place_of_unfit, record_title, route_target,
+    };
+}
+
+/// The checksum of a header.
+pub mod checksums {
+    pub use fletcher::{adjust, is_right, seal};
+}
+
+/// Octets handed on.
+pub mod views {
+    pub use clnp_views::{Frame, Head, View};
+}

@@ -12,7 +12,7 @@ use crate::layout::{
 use crate::parts::Parts;
 use crate::pdu::SegPart;
 use byteorder::{BigEndian, ByteOrder};
-use nsap::clnp_base::InlineOctets;
+use nsap::base::InlineOctets;
 
 /// The number of octets of the header that is made from these parts.
 pub(crate) fn header_len(parts: &Parts) -> usize

@@ -3,7 +3,7 @@ ghost use Rattle.std.specs.Prelude.{◌≡◌, ◌+◌, ◌<◌, ◌≤◌, ◌^
 ghost use Rattle.std.specs.List.{remove};
 ghost use Rattle.reassembly.specs.Counts.{starts_from};
 
-use nsap::clnp_base::NoMemory;
+use nsap::base::NoMemory;
 use std::alloc::Global;
 use std::marker::Model;
 

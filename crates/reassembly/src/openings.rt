@@ -8,7 +8,7 @@ ghost use Rattle.reassembly.specs.State.{place_of};
 
 use crate::marks::Marks;
 use crate::segment::{Key, Shape};
-use nsap::clnp_base::NoMemory;
+use nsap::base::NoMemory;
 use slab::Slab;
 use std::alloc::Global;
 use std::marker::Model;

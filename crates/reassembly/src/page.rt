@@ -6,7 +6,7 @@ ghost use Rattle.reassembly.specs.Pages.{IsApart, ends_behind};
 ghost use Rattle.reassembly.specs.Runs.{AreInOrder, AreJoined, cut, is_across, is_gap, marked, named_in, renamed, unfilled};
 
 use crate::runs::Run;
-use nsap::clnp_base::NoMemory;
+use nsap::base::NoMemory;
 use std::alloc::Global;
 use std::marker::Model;
 

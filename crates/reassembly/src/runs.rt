@@ -8,7 +8,7 @@ ghost use Rattle.reassembly.specs.Runs.{AreInOrder, cut, filled, is_gap, marked,
 
 use crate::counts::Counts;
 use crate::page::{PAGE, Page, has_gap as has_gap_in};
-use nsap::clnp_base::NoMemory;
+use nsap::base::NoMemory;
 use std::alloc::Global;
 use std::marker::Model;
 

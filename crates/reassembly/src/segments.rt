@@ -6,7 +6,7 @@ ghost use Rattle.reassembly.specs.Offered.{total_size};
 ghost use Rattle.reassembly.specs.State.{segments_of};
 
 use crate::segment::{Key, Segment};
-use nsap::clnp_base::NoMemory;
+use nsap::base::NoMemory;
 use std::alloc::Global;
 use std::marker::Model;
 

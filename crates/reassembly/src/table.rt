@@ -16,7 +16,7 @@ use crate::runs::{Runs, has_gap, has_hole};
 use crate::segment::{Key, Segment, Shape};
 use crate::segments::Segments;
 use clnp_views::View;
-use nsap::clnp_base::NoMemory;
+use nsap::base::NoMemory;
 use std::alloc::Global;
 use std::marker::Model;
 

@@ -4,7 +4,7 @@ ghost use Rattle.std.specs.List.{list_all};
 ghost use Rattle.hex.specs.Hex.{decode_of, is_hex_digit};
 ghost use Rattle.recorded_link.specs.Recording.{frame_on, frames_in};
 
-use link_board::clnp_base::next_line;
+use link_board::base::next_line;
 
 /// The most octets of a frame that come.
 const MOST: usize = 70_000;

@@ -5,8 +5,8 @@ ghost use Rattle.link_board.specs.Memory.{look_at};
 ghost use Rattle.recorded_link.specs.Recording.{after_look, frames_in, state_of};
 
 use crate::line::next_frame;
-use link_board::clnp_base::Failed;
-use link_board::nsap::{Snpa, Target};
+use link_board::base::Failed;
+use link_board::nsaps::{Snpa, Target};
 use link_board::{Got, Link};
 use std::marker::Model;
 

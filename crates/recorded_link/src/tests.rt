@@ -3,7 +3,7 @@ ghost use Rattle.std.specs.Prelude.{◌≤◌, length};
 
 use crate::RecordedLink;
 use link_board::Link;
-use link_board::nsap::Target;
+use link_board::nsaps::Target;
 use std::process::Abort;
 
 /// Lines of which the second and the last are capture lines.

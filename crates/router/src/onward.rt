@@ -13,9 +13,9 @@ ghost use Rattle.system_entity.specs.Comes.{HasValue};
 ghost use Rattle.router.specs.Onward.{ComesTo, life_left};
 
 use clnp_machine::clnp::Header;
-use clnp_machine::clnp_options::Reason;
 use clnp_machine::laws;
-use clnp_machine::segmenter::{Cuts, NotPermitted};
+use clnp_machine::options::Reason;
+use clnp_machine::segmenting::{Cuts, NotPermitted};
 use clnp_machine::system_plan::PortConfig;
 use clnp_machine::way::Way;
 use system_entity::Passing;

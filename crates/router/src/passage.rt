@@ -11,8 +11,8 @@ ghost use Rattle.clnp_machine.specs.PduHeader.Headers.{IsHeader, SpellsHeader, w
 ghost use Rattle.clnp_machine.specs.PduHeader.Value.{PduValue};
 
 use clnp_machine::clnp::Header;
-use clnp_machine::clnp_options::Reason;
 use clnp_machine::nsaps::Address;
+use clnp_machine::options::Reason;
 use clnp_machine::way::Way;
 
 /// No source route has so many titles, since its pointer is an octet.

@@ -2,7 +2,7 @@
 ghost use Rattle.std.specs.Prelude.{◌≡◌, ◌==◌, ◌&&◌, not};
 ghost use Rattle.clnp_machine.specs.Step.{is_at};
 
-use clnp_machine::esis_tables::Neighbour;
+use clnp_machine::hearing::Neighbour;
 use clnp_machine::way::Way;
 use system_entity::Passing;
 

@@ -14,8 +14,8 @@ use crate::word::{
     two_words, wanted,
 };
 use clnp_plan::SystemConfig;
-use clnp_plan::clnp_base::same;
-use clnp_plan::forwarding::Route;
+use clnp_plan::base::same;
+use clnp_plan::routing::Route;
 
 /// What is settled before the first event: the version of the text, the subnetworks and the systems.
 #[derive(Clone, Copy)]

@@ -19,9 +19,9 @@ use crate::word::{
     is_one_at_most, mtu_word, name_word, number_word, prefix_word, snpa_word, three_words,
     two_words, wanted,
 };
-use clnp_plan::clnp_base::{next_word, same};
-use clnp_plan::forwarding::Route;
+use clnp_plan::base::{next_word, same};
 use clnp_plan::nsaps::{Address, Prefix, Snpa};
+use clnp_plan::routing::Route;
 use clnp_plan::{Limits, PortConfig, Role, Settings};
 use std::alloc::Global;
 use std::marker::Model;

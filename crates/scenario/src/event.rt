@@ -4,9 +4,9 @@ ghost use Rattle.scenario.specs.Scenario.{moves_of, octets_of};
 ghost use Rattle.scenario.specs.declared.event.Body.TheVariants.{Pattern};
 
 use crate::kept_ask::KeptAsk;
-use clnp_plan::clnp_base::{NoMemory, Octets};
-use clnp_plan::forwarding::Route;
+use clnp_plan::base::{NoMemory, Octets};
 use clnp_plan::nsaps::{Address, Prefix, Snpa, Target};
+use clnp_plan::routing::Route;
 use std::alloc::Global;
 
 /// How many octets a row of a pattern has.

@@ -21,7 +21,7 @@ use crate::word::{
     address_word, data_word, first_four, four_words, frame_word, is_name, is_one_at_most,
     number_word, one_word, snpa_word, target_word, two_words, wanted,
 };
-use clnp_plan::clnp_base::{next_word, same};
+use clnp_plan::base::{next_word, same};
 use clnp_plan::{Role, SystemConfig};
 use std::alloc::Global;
 

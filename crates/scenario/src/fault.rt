@@ -1,7 +1,7 @@
 //! Why a text or one of its lines is refused.
 
 use crate::code::Code;
-use clnp_plan::clnp_base::NoMemory;
+use clnp_plan::base::NoMemory;
 use std::alloc::{AllocError, AllocFailed};
 
 /// Why a text is no scenario.

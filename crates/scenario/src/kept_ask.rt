@@ -2,8 +2,8 @@
 ghost use Rattle.std.specs.Prelude.{◌≡◌, IfOk, [], true};
 
 use clnp_plan::Ask;
-use clnp_plan::clnp_base::NoMemory;
-use clnp_plan::clnp_options::OptionList;
+use clnp_plan::base::NoMemory;
+use clnp_plan::options::OptionList;
 use std::alloc::Global;
 use std::marker::Model;
 

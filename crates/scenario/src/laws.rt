@@ -31,7 +31,7 @@ pub(crate) fn each_version_is_fit()
     ensures { (links : Option ℕ) (newest : ℕ) (text : List ℕ) (plan : Plan)
         → plan_at links newest (lines_of text) ≡ Ok plan → IsFit plan }
 {
-    clnp_plan::clnp_options::laws::spelled_where_no_rule_is_broken();
+    clnp_plan::options::laws::spelled_where_no_rule_is_broken();
     clnp_plan::nsaps::laws::read_is_address();
 }
 

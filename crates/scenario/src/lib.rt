@@ -21,7 +21,6 @@ mod wish;
 pub mod word;
 mod writer;
 
-pub use clnp_plan::clnp_base;
 pub use code::Code;
 pub use event::{Body, Event, Move};
 pub use fault::{LineFault, ScenarioRefusal};
@@ -52,20 +51,28 @@ pub mod nsaps {
 
 /// The options part of a header.
 pub mod options {
-    pub use clnp_plan::clnp_options::OptionList;
+    pub use clnp_plan::options::OptionList;
 }
 
 /// Octets handed on.
 pub mod views {
-    pub use clnp_plan::clnp_views::Frame;
+    pub use clnp_plan::views::Frame;
 }
 
 /// What is heard of neighbours.
 pub mod hearing {
-    pub use clnp_plan::esis_tables::{EsisLimits, Gone, Heard, Neighbour, TableKind, Tables};
+    pub use clnp_plan::hearing::{EsisLimits, Gone, Heard, Neighbour, TableKind, Tables};
 }
 
 /// Configured routes.
 pub mod routing {
-    pub use clnp_plan::forwarding::{Route, RouteRefusal, Routes};
+    pub use clnp_plan::routing::{Route, RouteRefusal, Routes};
+}
+
+/// Octets and text.
+pub mod base {
+    pub use clnp_plan::base::{
+        DigitValues, InlineOctets, NoMemory, decimal, is_skipped, lines, next_line, next_word,
+        same, words,
+    };
 }

@@ -24,7 +24,7 @@ use crate::standing::Standing;
 use crate::system::System;
 use crate::word::is_line_of;
 use clnp_plan::SystemConfig;
-use clnp_plan::clnp_base::{is_skipped, next_line, same};
+use clnp_plan::base::{is_skipped, next_line, same};
 use std::alloc::{AllocError, Global};
 
 /// A line that breaks the grammar, by its number and the code's.

@@ -8,7 +8,7 @@ use crate::fault::ScenarioRefusal;
 use crate::kept_ask::KeptAsk;
 use crate::plan::Scenario;
 use crate::reader::read;
-use clnp_plan::clnp_base::NoMemory;
+use clnp_plan::base::NoMemory;
 use clnp_plan::nsaps::Address;
 use std::alloc::Global;
 

@@ -11,7 +11,7 @@ use crate::code::Code;
 use crate::fault::LineFault;
 use crate::word::{has_prefix, life_word, number_behind};
 use clnp_plan::Settings;
-use clnp_plan::clnp_base::{next_word, same};
+use clnp_plan::base::{next_word, same};
 use std::alloc::Global;
 
 /// A setting of a system.

@@ -6,8 +6,8 @@ ghost use Rattle.scenario.specs.Scenario.{ticks_of};
 ghost use Rattle.scenario.specs.Standing.{changed_at, first_clocks, is_ahead, is_among, is_port, is_rival, is_second, moved, prefixes_of, runs_ahead, spots_from, spots_of, standing_after, standing_of, takes_prefix, with_prefix, without_prefix};
 
 use crate::event::Event;
-use clnp_plan::forwarding::Route;
 use clnp_plan::nsaps::{Prefix, Snpa};
+use clnp_plan::routing::Route;
 use clnp_plan::{PortConfig, SystemConfig};
 use std::alloc::{AllocError, Global};
 use std::marker::Model;

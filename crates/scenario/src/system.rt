@@ -9,9 +9,9 @@ ghost use Rattle.scenario.specs.Standing.{is_among};
 
 use crate::code::Code;
 use crate::fault::LineFault;
-use clnp_plan::clnp_base::same;
-use clnp_plan::forwarding::Route;
+use clnp_plan::base::same;
 use clnp_plan::nsaps::{Address, Prefix, Snpa};
+use clnp_plan::routing::Route;
 use clnp_plan::{PortConfig, Role, Settings, SystemConfig};
 use std::alloc::{AllocError, Global};
 use std::marker::Model;

@@ -10,8 +10,8 @@ ghost use Rattle.scenario.specs.Refusal.{Faults};
 use crate::fault::LineFault;
 use crate::word::{has_prefix, life_word, literal, options_word};
 use clnp_plan::Ask;
-use clnp_plan::clnp_base::{next_word, same};
-use clnp_plan::clnp_options::OptionList;
+use clnp_plan::base::{next_word, same};
+use clnp_plan::options::OptionList;
 use std::alloc::Global;
 
 /// A wish for a unit that is sent.

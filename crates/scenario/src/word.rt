@@ -10,9 +10,9 @@ ghost use Rattle.scenario.specs.declared.code.Code.TheVariants as bad;
 use crate::code::Code;
 use crate::event::Body;
 use crate::fault::LineFault;
-use clnp_plan::clnp_base::{Octets, decimal, next_word, same};
-use clnp_plan::clnp_options::OptionList;
+use clnp_plan::base::{Octets, decimal, next_word, same};
 use clnp_plan::nsaps::{Address, Prefix, Snpa, Target};
+use clnp_plan::options::OptionList;
 use std::alloc::Global;
 
 /// The word of a line that has one word.

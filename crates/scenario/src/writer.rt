@@ -11,9 +11,9 @@ ghost use Rattle.scenario.specs.Grammar.{plan_of};
 use crate::event::{Body, Event};
 use crate::laws;
 use crate::plan::{Scenario, Subnet};
-use clnp_plan::clnp_base::{NoMemory, push};
-use clnp_plan::forwarding::Route;
+use clnp_plan::base::{NoMemory, push};
 use clnp_plan::nsaps::Address;
+use clnp_plan::routing::Route;
 use clnp_plan::{
     Ask, Limits, PortConfig, Role, SystemConfig, Word, on_or_off, push_line, push_words,
     target_text,

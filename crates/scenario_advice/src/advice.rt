@@ -3,7 +3,7 @@ ghost use Rattle.std.specs.Prelude.{◌≡◌, ◌≤◌, true, [], length};
 ghost use Rattle.scenario_advice.specs.Said.{IsSaid, IsTold, is_plain};
 
 use itoa::Buffer;
-use scenario::clnp_base::InlineOctets;
+use scenario::base::InlineOctets;
 use std::marker::Model;
 
 /// The most characters of a line of advice.

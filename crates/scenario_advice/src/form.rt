@@ -1,7 +1,7 @@
 //! The forms of words, and which word breaks its own.
 use crate::place::{Mark, Place, word_at};
 use scenario::Code;
-use scenario::clnp_base::{decimal, same};
+use scenario::base::{decimal, same};
 use scenario::nsaps::{Address, Prefix, Snpa};
 use scenario::word::{is_digits, is_name};
 

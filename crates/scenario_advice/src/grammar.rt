@@ -2,7 +2,7 @@
 use crate::form::{Form, are_octets, is_number, unless};
 use crate::place::Place;
 use scenario::Code;
-use scenario::clnp_base::same;
+use scenario::base::same;
 use scenario::options::OptionList;
 
 /// What may stand behind the words that a line must have.

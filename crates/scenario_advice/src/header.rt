@@ -2,7 +2,7 @@
 use crate::advice::Advice;
 use crate::file::of_file;
 use crate::place::{Place, VERSION_2};
-use scenario::clnp_base::same;
+use scenario::base::same;
 
 /// The header of a text of version 1.
 const VERSION_1: &[u8] = b"clnp-sim 1";

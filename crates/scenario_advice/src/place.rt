@@ -1,5 +1,5 @@
 //! A line of a text, and what the lines before it declare.
-use scenario::clnp_base::{decimal, is_skipped, lines, next_word, same, words};
+use scenario::base::{decimal, is_skipped, lines, next_word, same, words};
 use scenario::nsaps::{Address, Prefix, Snpa};
 
 /// The header of a text of version 2.

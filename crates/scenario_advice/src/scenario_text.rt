@@ -11,7 +11,7 @@ use crate::systems::of_systems;
 use crate::whole::of_whole;
 use crate::word::{of_further_word, of_keyword, of_word, of_word_too_many, of_words_missing};
 use scenario::Code;
-use scenario::clnp_base::{next_word, same, words};
+use scenario::base::{next_word, same, words};
 
 /// What is said to the author of a scenario text, of either version, that is refused at a line, from 1, with the number of a
 /// code: which word is at fault and what is wanted there, or which names the line is about. Where that can't be told, the line.

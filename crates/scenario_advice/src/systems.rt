@@ -1,7 +1,7 @@
 //! What systems lack at the line `events`.
 use crate::advice::Advice;
 use crate::place::{Place, number_at};
-use scenario::clnp_base::{lines, next_word, same};
+use scenario::base::{lines, next_word, same};
 
 /// The most systems of a scenario.
 const MOST: usize = 64;

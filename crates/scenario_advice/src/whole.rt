@@ -4,7 +4,7 @@ use crate::form::has_role;
 use crate::grammar::{More, key_of};
 use crate::place::{Found, Mark, Place, begins, count_words, number_at, word_at};
 use scenario::Code;
-use scenario::clnp_base::{is_skipped, lines, same, words};
+use scenario::base::{is_skipped, lines, same, words};
 use scenario::nsaps::{Address, Prefix, Snpa};
 
 /// What is said of a line whose words are right each by itself.

@@ -4,7 +4,7 @@ use crate::form::{Form, first_other, is_subnet, is_system, two_fields};
 use crate::grammar::{Key, More, key_of};
 use crate::place::{Mark, Place, word_at};
 use scenario::Code;
-use scenario::clnp_base::same;
+use scenario::base::same;
 
 /// Which word it is, from 1, and what it is.
 fn told(place: usize, word: &[u8]) -> Advice {

@@ -27,16 +27,16 @@ ghost use Rattle.system_entity.specs.Steps.{IsSpentIn, TakesStep};
 
 use crate::passing::Passing;
 use crate::way::{by_route, host_hop, to_neighbour};
+use clnp_machine::base::NoMemory;
 use clnp_machine::clnp::Kind;
-use clnp_machine::clnp_base::NoMemory;
-use clnp_machine::clnp_views::Frame;
-use clnp_machine::esis_tables::Neighbour;
-use clnp_machine::forwarding::Routes;
+use clnp_machine::hearing::Neighbour;
 use clnp_machine::nsaps::Address;
-use clnp_machine::segmenter::Cuts;
+use clnp_machine::routing::Routes;
+use clnp_machine::segmenting::Cuts;
 use clnp_machine::system_plan::{
     Ask, Limits, Note, Output, PortConfig, Role, SendRefusal, SystemConfig,
 };
+use clnp_machine::views::Frame;
 use clnp_machine::way::{Hop, Way};
 use esis_entity::EsisEntity;
 use local_entity::Local;

@@ -1,7 +1,7 @@
 //! What comes to a system.
-use clnp_machine::clnp_views::Frame;
 use clnp_machine::nsaps::{Address, Snpa};
 use clnp_machine::system_plan::Ask;
+use clnp_machine::views::Frame;
 
 /// What comes to a system.
 #[derive(Drop)]

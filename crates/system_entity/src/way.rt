@@ -2,9 +2,9 @@
 ghost use Rattle.std.specs.Prelude.{◌≡◌};
 ghost use Rattle.clnp_machine.specs.Step as step;
 
-use clnp_machine::esis_tables::Neighbour;
-use clnp_machine::forwarding::Route;
+use clnp_machine::hearing::Neighbour;
 use clnp_machine::nsaps::Target;
+use clnp_machine::routing::Route;
 use clnp_machine::way::{Hop, Way};
 
 /// The way to an end system that was heard of.

@@ -2,10 +2,10 @@ use crate::network::{
     FROM_THE_HOST, TO_THE_HOST, address, asking, moved_port, scenario_of, see_frame, see_got,
     see_port, see_sent,
 };
-use clnp_machine::clnp_views::Frame;
 use clnp_machine::nsaps::{Snpa, Target};
 use clnp_machine::system_plan::{Limits, Output, Role, SystemConfig};
-use clnp_systems::end_system::EndSystem;
+use clnp_machine::views::Frame;
+use clnp_systems::EndSystem;
 use std::alloc::Global;
 use std::process::Abort;
 

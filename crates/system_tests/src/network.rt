@@ -3,11 +3,11 @@ ghost use Rattle.std.specs.Prelude.{◌≡◌, false};
 ghost use Rattle.clnp_machine.specs.ClnpOptions.Grammar.{FitsKind};
 ghost use Rattle.clnp_machine.specs.ClnpOptions.Parameter.{parameters};
 
-use clnp_machine::clnp_base::lines;
-use clnp_machine::clnp_options::{OptionList, laws};
-use clnp_machine::forwarding::Route;
 use clnp_machine::nsaps::{Address, Prefix, Snpa, Target};
+use clnp_machine::options::{OptionList, laws};
+use clnp_machine::routing::Route;
 use clnp_machine::system_plan::{Ask, Note, Output, PortConfig};
+use scenario::base::lines;
 use scenario::{Scenario, read};
 use std::alloc::Global;
 use std::process::Abort;

@@ -2,12 +2,12 @@ use crate::network::{
     FROM_THE_HOST, FROM_THE_ROUTER, address, moved_port, prefix_of, route_to, scenario_of,
     see_frame, see_port, see_sent,
 };
-use clnp_machine::clnp_views::Frame;
-use clnp_machine::esis_tables::Neighbour;
+use clnp_machine::hearing::Neighbour;
 use clnp_machine::nsaps::{Snpa, Target};
 use clnp_machine::system_plan::{Limits, Output, Role, SystemConfig};
+use clnp_machine::views::Frame;
 use clnp_machine::way::Way;
-use clnp_systems::router::Router;
+use clnp_systems::Router;
 use std::alloc::Global;
 use std::process::Abort;
 

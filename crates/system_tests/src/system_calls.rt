@@ -2,9 +2,9 @@ use crate::network::{
     TO_THE_HOST, address, asking, moved_port, prefix_of, route_to, scenario_of, see_got, see_port,
     see_sent,
 };
-use clnp_machine::clnp_views::Frame;
 use clnp_machine::nsaps::Snpa;
 use clnp_machine::system_plan::{Limits, Note, Output, Role, SystemConfig};
+use clnp_machine::views::Frame;
 use clnp_systems::System;
 use std::alloc::Global;
 use std::process::Abort;

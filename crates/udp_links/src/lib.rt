@@ -5,7 +5,25 @@ mod socket;
 mod traffic;
 mod udp;
 
-pub use link_board;
-pub use link_words;
 pub use traffic::Traffic;
 pub use udp::{LinkFault, UdpLink};
+
+/// Links, and a board of them.
+pub mod links {
+    pub use link_board::{Board, Got, Link};
+}
+
+/// The words that name a link.
+pub mod words {
+    pub use link_words::{End, LinkEnds, Peer, Role, is_link_word};
+}
+
+/// Addresses on a subnetwork.
+pub mod nsaps {
+    pub use link_board::nsaps::{Snpa, Target};
+}
+
+/// A failure of a link.
+pub mod base {
+    pub use link_board::base::Failed;
+}

@@ -1,5 +1,5 @@
 //! What comes on links that are looked at in turn.
-use link_board::clnp_base::NoMemory;
+use link_board::base::NoMemory;
 use std::alloc::Global;
 use std::cell::Cell;
 use std::rc::Rc;

@@ -5,8 +5,8 @@ ghost use Rattle.link_words.specs.Words.{is_link_word};
 
 use crate::socket::{Gift, Look, MOST, address_of, give, look_at};
 use crate::traffic::Traffic;
-use link_board::clnp_base::{Failed, NoMemory};
-use link_board::nsap::Target;
+use link_board::base::{Failed, NoMemory};
+use link_board::nsaps::Target;
 use link_board::{Got, Link};
 use link_words::{End, LinkEnds, Role};
 use std::net::{Net, UdpSocket};

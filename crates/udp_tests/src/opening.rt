@@ -4,8 +4,8 @@ ghost use Rattle.std.specs.Prelude.{◌≤◌, length};
 use std::alloc::Global;
 use std::net::{Ipv4Addr, Net, SocketAddr, SocketAddrV4, UdpSocket};
 use std::rt::Clock;
-use udp_links::link_board::{Got, Link};
-use udp_links::link_words::{End, is_link_word};
+use udp_links::links::{Got, Link};
+use udp_links::words::{End, is_link_word};
 use udp_links::{Traffic, UdpLink};
 
 /// A port that is free just now.

@@ -2,9 +2,9 @@
 use crate::opening::{brings, end_at, free_port, lone_link, look_for, opened, two_links};
 use std::process::Abort;
 use std::time::{Duration, Instant};
-use udp_links::link_board::Link;
-use udp_links::link_board::clnp_base::Failed;
-use udp_links::link_board::nsap::{Snpa, Target};
+use udp_links::base::Failed;
+use udp_links::links::Link;
+use udp_links::nsaps::{Snpa, Target};
 use udp_links::{LinkFault, Traffic, UdpLink};
 
 /// A data unit of the two octets `hi` from 47002702 to 47002701: its header.
@@ -147,7 +147,7 @@ fn an_end_that_is_taken_is_refused(rt: HostRuntime) {
     let (_link, port) = lone_link(machine).expect(&rt, "a free port");
     let word = format!(in rt.alloc(); "udp:127.0.0.1:{port}").expect(&rt, "memory");
     let machine = rt.clone().expect(&rt, "memory");
-    assert!(rt; udp_links::link_words::is_link_word(word.as_bytes()));
+    assert!(rt; udp_links::words::is_link_word(word.as_bytes()));
     let traffic = Traffic::new(rt.alloc()).expect(&rt, "memory");
     let again = UdpLink::open(machine, word.as_bytes(), traffic);
     assert!(rt; matches!(again, Err(LinkFault::Refused)));

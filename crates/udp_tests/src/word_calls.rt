@@ -1,7 +1,7 @@
 //! Calls on link words.
 use std::process::Abort;
-use udp_links::link_board::nsap::Snpa;
-use udp_links::link_words::{End, LinkEnds, Peer, Role, is_link_word};
+use udp_links::nsaps::Snpa;
+use udp_links::words::{End, LinkEnds, Peer, Role, is_link_word};
 
 #[test]
 fn a_word_names_its_ends(rt: HostRuntime) {

@@ -1,8 +1,8 @@
 //! The links and the clock of a case.
 ghost use Rattle.std.specs.Prelude.{◌≡◌, ◌<◌, ◌^◌, None};
 
-use clnp_program::clnp_base::{Clock, Octets, decimal, push_unhex, words};
-use link_board::nsap::Snpa;
+use link_board::base::{Clock, Octets, decimal, push_unhex, words};
+use link_board::nsaps::Snpa;
 use link_board::{MemFrame, MemLink};
 use std::alloc::{AllocError, Global};
 

@@ -3,8 +3,8 @@
 use crate::case::Case;
 use crate::links::{CaseClock, numbers};
 use crate::selection::{Selection, selected};
-use clnp_program::clnp_base::{MemSink, MemSource, NoMemory, words};
 use clnp_program::run;
+use link_board::base::{MemSink, MemSource, NoMemory, words};
 use link_board::{Board, Link, MemLink};
 use std::alloc::{AllocError, Global};
 

@@ -9,9 +9,9 @@ ghost use Rattle.clnp_world.specs.Parts.{Changes, Follows, Holds, IsRunning};
 
 use super::Network;
 use crate::lines::{Line, LineSink};
-use clnp_machine::clnp_base::{NoMemory, Octets};
-use clnp_machine::forwarding::Route;
+use clnp_machine::base::{NoMemory, Octets};
 use clnp_machine::nsaps::{Prefix, Snpa};
+use clnp_machine::routing::Route;
 use clnp_machine::system_plan::{Note, PortConfig, Role};
 use clnp_network::scenarios::Subnet;
 use clnp_systems::System;

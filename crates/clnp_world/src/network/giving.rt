@@ -12,7 +12,7 @@ use super::Network;
 use super::coming::names_of_inputs;
 use crate::copy::{first_port, is_to_group};
 use crate::lines::{Line, LineSink};
-use clnp_machine::clnp_base::NoMemory;
+use clnp_machine::base::NoMemory;
 use clnp_machine::system_plan::Limits;
 use clnp_systems::Input;
 use std::alloc::Global;

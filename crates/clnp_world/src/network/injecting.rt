@@ -7,9 +7,9 @@ ghost use Rattle.clnp_world.specs.Parts.{Follows, Holds};
 use super::Network;
 use crate::copy::{FrameCopy, Origin};
 use crate::lines::{Line, LineSink};
-use clnp_machine::clnp_base::{NoMemory, Octets};
-use clnp_machine::clnp_views::Frame;
+use clnp_machine::base::{NoMemory, Octets};
 use clnp_machine::nsaps::{Snpa, Target};
+use clnp_machine::views::Frame;
 use clnp_network::scenarios::Subnet;
 use std::alloc::Global;
 

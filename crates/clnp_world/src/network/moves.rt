@@ -10,7 +10,7 @@ use super::Network;
 use super::coming::names_of_inputs;
 use crate::copy::NO_FRAME;
 use crate::lines::{Line, LineSink};
-use clnp_machine::clnp_base::NoMemory;
+use clnp_machine::base::NoMemory;
 use clnp_machine::system_plan::Limits;
 use clnp_network::scenarios::{Event, Move, Scenario, Subnet};
 use clnp_systems::Input;

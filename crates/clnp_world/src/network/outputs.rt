@@ -16,10 +16,10 @@ ghost use Rattle.clnp_world.specs.Stands.{IsMadeWithUnit};
 use super::Network;
 use crate::copy::{FrameCopy, Origin};
 use crate::lines::{Line, LineSink};
-use clnp_machine::clnp_base::NoMemory;
-use clnp_machine::clnp_views::Frame;
+use clnp_machine::base::NoMemory;
 use clnp_machine::nsaps::Target;
 use clnp_machine::system_plan::{Note, Output, PortConfig, Sending, SystemConfig};
+use clnp_machine::views::Frame;
 use clnp_systems::sent_frame;
 use std::alloc::Global;
 

@@ -11,7 +11,7 @@ use super::Network;
 use super::coming::names_of_inputs;
 use crate::copy::NO_FRAME;
 use crate::lines::LineSink;
-use clnp_machine::clnp_base::NoMemory;
+use clnp_machine::base::NoMemory;
 use clnp_machine::nsaps::Address;
 use clnp_machine::system_plan::{Ask, Role};
 use clnp_network::scenarios::Body;

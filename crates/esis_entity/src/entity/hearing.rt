@@ -13,9 +13,9 @@ ghost use Rattle.esis_entity.specs.Stands.{Stands};
 
 use super::EsisEntity;
 use super::output::give_note;
-use clnp_machine::clnp_base::NoMemory;
+use clnp_machine::base::NoMemory;
 use clnp_machine::esis::{AddressList, EsisBody, EsisPdu};
-use clnp_machine::esis_tables::{Heard, Neighbour, TableKind};
+use clnp_machine::hearing::{Heard, Neighbour, TableKind};
 use clnp_machine::nsaps::{Address, Snpa};
 use clnp_machine::system_plan::{Note, Output, Role, SystemConfig};
 

@@ -8,11 +8,11 @@ ghost use Rattle.clnp_machine.specs.EsisPdus.Making.{esh_length};
 ghost use Rattle.esis_entity.specs.Does.{StaysInFront};
 
 use super::output::send;
-use clnp_machine::clnp_base::NoMemory;
-use clnp_machine::clnp_views::Head;
+use clnp_machine::base::NoMemory;
 use clnp_machine::esis::{HelloRefusal, esh, ish};
 use clnp_machine::nsaps::{Address, Target};
 use clnp_machine::system_plan::{Output, Role, SystemConfig};
+use clnp_machine::views::Head;
 
 /// Says hello on each of so many ports, as a system that says it once in `period` seconds.
 pub(crate) fn say_everywhere(

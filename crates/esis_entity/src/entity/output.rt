@@ -6,10 +6,10 @@ ghost use Rattle.clnp_machine.specs.EsisPdus.Grammar.{Spells};
 ghost use Rattle.clnp_machine.specs.EsisPdus.Value.{EsisValue};
 ghost use Rattle.esis_entity.specs.Does.{StaysInFront};
 
-use clnp_machine::clnp_base::NoMemory;
-use clnp_machine::clnp_views::Head;
+use clnp_machine::base::NoMemory;
 use clnp_machine::nsaps::Target;
 use clnp_machine::system_plan::{Note, Output, Sending};
+use clnp_machine::views::Head;
 
 /// Gives out a note.
 pub(crate) fn give_note(note: Note, out: &mut Vec<Output>) -> Result<(), NoMemory>

@@ -13,8 +13,8 @@ ghost use Rattle.esis_entity.specs.Stands.{Stands, StandsSince};
 use super::EsisEntity;
 use super::hellos::say_everywhere;
 use super::output::give_note;
-use clnp_machine::clnp_base::NoMemory;
-use clnp_machine::esis_tables::{Gone, Tables, laws};
+use clnp_machine::base::NoMemory;
+use clnp_machine::hearing::{Gone, Tables, laws};
 use clnp_machine::system_plan::{Note, Output, SystemConfig};
 
 /// Forgets what has ended, and notes each key.

@@ -1,6 +1,6 @@
 //! Where keys were found last.
 use nsap::Address;
-use nsap::clnp_base::NoMemory;
+use nsap::base::NoMemory;
 use std::alloc::Global;
 
 /// At least so many hints are kept for each key that a table may keep, since keys share them.

@@ -5,7 +5,7 @@ ghost use Rattle.esis_tables.specs.State.{key_in};
 
 use super::Entry;
 use nsap::Address;
-use nsap::clnp_base::NoMemory;
+use nsap::base::NoMemory;
 use slab::Slab;
 use std::alloc::Global;
 use std::marker::Model;

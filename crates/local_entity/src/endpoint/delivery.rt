@@ -13,7 +13,7 @@ ghost use Rattle.local_entity.specs.declared.action.Action.TheVariants.{Note as 
 use super::Endpoint;
 use crate::action::Action;
 use crate::purpose::Purpose;
-use clnp_machine::clnp_base::{NoMemory, Octets};
+use clnp_machine::base::{NoMemory, Octets};
 use clnp_machine::nsaps::Address;
 use clnp_machine::system_plan::Note;
 use std::alloc::Global;

@@ -11,11 +11,11 @@ ghost use Rattle.local_entity.specs.Local.{Appends};
 use super::Endpoint;
 use crate::action::Action;
 use crate::refusal::refusal_note;
+use clnp_machine::base::NoMemory;
 use clnp_machine::clnp::Kind;
-use clnp_machine::clnp_base::NoMemory;
-use clnp_machine::clnp_options::OptionList;
-use clnp_machine::echo::needs_id;
+use clnp_machine::echoing::needs_id;
 use clnp_machine::nsaps::Address;
+use clnp_machine::options::OptionList;
 use clnp_machine::system_plan::{Ask, Note};
 use std::alloc::Global;
 

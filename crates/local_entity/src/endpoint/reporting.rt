@@ -12,9 +12,9 @@ ghost use Rattle.local_entity.specs.Reporting.{IsReport};
 use super::Endpoint;
 use crate::action::{Action, Draft};
 use clnp_machine::clnp::Kind;
-use clnp_machine::clnp_views::View;
-use clnp_machine::error_reports::report;
+use clnp_machine::reports::report;
 use clnp_machine::system_plan::Note;
+use clnp_machine::views::View;
 
 impl Endpoint {
     /// Discards a PDU whose frame is in view, where there is room for what is noted and sent.

@@ -14,11 +14,11 @@ ghost use Rattle.local_entity.specs.Receipt.{segment_in, segment_part};
 use super::Local;
 use crate::action::Action;
 use crate::purpose::purpose_in;
+use clnp_machine::base::{NoMemory, Octets};
 use clnp_machine::clnp::{Pdu, SegPart, decode, laws};
-use clnp_machine::clnp_base::{NoMemory, Octets};
-use clnp_machine::clnp_views::Frame;
 use clnp_machine::laws as machine_laws;
-use clnp_machine::reassembly::{Key, Segment, Shape};
+use clnp_machine::reassembling::{Key, Segment, Shape};
+use clnp_machine::views::Frame;
 use std::alloc::Global;
 
 mod expiry;

@@ -9,9 +9,9 @@ ghost use Rattle.clnp_machine.specs.System.{SystemState, IsChanged};
 ghost use Rattle.system_entity.specs.Stands.{PartsStandSince, Stands};
 
 use super::SystemEntity;
-use clnp_machine::clnp_base::NoMemory;
-use clnp_machine::forwarding::Route;
+use clnp_machine::base::NoMemory;
 use clnp_machine::nsaps::Prefix;
+use clnp_machine::routing::Route;
 use clnp_machine::system_plan::PortConfig;
 use std::alloc::Global;
 

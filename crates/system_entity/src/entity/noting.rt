@@ -11,8 +11,8 @@ ghost use Rattle.system_entity.specs.Stands.{Stands};
 ghost use Rattle.system_entity.specs.Steps.{IsSpentIn, TakesStep};
 
 use super::SystemEntity;
+use clnp_machine::base::NoMemory;
 use clnp_machine::clnp::Kind;
-use clnp_machine::clnp_base::NoMemory;
 use clnp_machine::nsaps::Address;
 use clnp_machine::system_plan::{Ask, Note, Output};
 use local_entity::refusal_note;

@@ -29,17 +29,17 @@ ghost use Rattle.system_entity.specs.Stands.{PartsStand, PartsStandSince};
 
 use super::{Arrival, SystemEntity};
 use crate::passing::Passing;
+use clnp_machine::base::NoMemory;
 use clnp_machine::clnp::{Kind, Pdu, Refusal, decode};
-use clnp_machine::clnp_base::NoMemory;
-use clnp_machine::clnp_options::Reason;
-use clnp_machine::clnp_views::Frame;
 use clnp_machine::esis::EsisRefusal;
-use clnp_machine::esis_tables::Neighbour;
-use clnp_machine::forwarding::{RouteRefusal, Routes};
+use clnp_machine::hearing::Neighbour;
 use clnp_machine::laws;
 use clnp_machine::nsaps::Address;
-use clnp_machine::segmenter::Cuts;
+use clnp_machine::options::Reason;
+use clnp_machine::routing::{RouteRefusal, Routes};
+use clnp_machine::segmenting::Cuts;
 use clnp_machine::system_plan::{Ask, Note, Output, PortConfig, Role, SendRefusal, SystemConfig};
+use clnp_machine::views::Frame;
 use clnp_machine::way::{Hop, Way};
 use esis_entity::send_redirect;
 use local_entity::{Action, give_pieces, send_unit};
@@ -397,7 +397,7 @@ pub(super) fn ports_of(alloc: Global, config: &SystemConfig) -> Result<Vec<PortC
 pub(super) fn routes_of(alloc: Global, config: &SystemConfig) -> Result<Routes, NoMemory>
     ensures { IfOk result (λ routes. routing.Stands routes config.now.routes) }
 {
-    clnp_machine::forwarding::laws::one_place_is_twice();
+    clnp_machine::routing::laws::one_place_is_twice();
     // Its clause: no two routes have one prefix.
     config.is_system();
     match Routes::from_list(alloc, config.routes()) {

@@ -14,10 +14,10 @@ ghost use Rattle.local_entity.specs.Local.{Appends, Stands};
 use super::super::Local;
 use super::noting::note;
 use crate::action::Action;
-use clnp_machine::clnp_base::NoMemory;
-use clnp_machine::clnp_options::Reason;
-use clnp_machine::clnp_views::View;
+use clnp_machine::base::NoMemory;
+use clnp_machine::options::Reason;
 use clnp_machine::system_plan::Note;
+use clnp_machine::views::View;
 use std::alloc::Global;
 
 impl Local {

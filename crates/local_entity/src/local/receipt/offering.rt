@@ -22,11 +22,11 @@ use super::noting::note;
 use crate::action::Action;
 use crate::endpoint::Endpoint;
 use crate::purpose::Purpose;
-use clnp_machine::clnp_base::{NoMemory, Octets};
-use clnp_machine::clnp_options::Reason;
-use clnp_machine::clnp_views::{Frame, View};
-use clnp_machine::reassembly::{Accept, Key, Segment, Shape, SlotNo, Table};
+use clnp_machine::base::{NoMemory, Octets};
+use clnp_machine::options::Reason;
+use clnp_machine::reassembling::{Accept, Key, Segment, Shape, SlotNo, Table};
 use clnp_machine::system_plan::Note;
+use clnp_machine::views::{Frame, View};
 use std::alloc::Global;
 
 impl Local {

@@ -1,4 +1,4 @@
-use captures::clnp_base::{
+use link_board::base::{
     Failed, MemSink, MemSource, NoMemory, Octets, ReadStop, Sink, Source, StdSink, StdSource,
     decimal, push, push_decimal, push_hex, push_unhex, read_all, write_all,
 };
