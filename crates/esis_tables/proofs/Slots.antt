@@ -1,22 +1,42 @@
 -- What stands in the slots of a list, where one comes, goes or is filled anew.
-use Rattle.std.proofs.Common.{◌≡◌, ◌≢◌, ◌∙◌, sym, ap, refl, subst, ℕ, zero, suc, ◌<◌, ◌≤◌, Bool, true, List, [], ◌∷◌, length, Option, Some, None, is_some, cond, count_by, inl, inr, arith}
+use Rattle.std.proofs.Common.{◌≡◌, ◌≢◌, ◌∙◌, sym, ap, refl, subst, ℕ, zero, suc, ◌<◌, ◌≤◌, true, List, [], ◌∷◌, ◌++◌, length, length-append, map, Option, Some, None, is_some, arith}
 use Rattle.std.specs.Prelude.{slice_get, slice_index_or, slice_set}
 use Rattle.std.specs.List.{AllByRecursion, cons_option, filter_map, insert, remove}
 use Rattle.std.specs.Option.{option_map}
-use Rattle.std.proofs.lemmas.Bool.{cases_eq, false≢true}
-use Rattle.std.proofs.lemmas.List.Sums.{sum_by-set}
-use Rattle.std.proofs.lemmas.Option.{get_or_from_slice_get, none-some, same_Some, slice_get_within}
-use Rattle.slab.specs.Slab.{ContainsKey, Slab, get}
+use Rattle.std.proofs.lemmas.Bool.{false≢true}
+use Rattle.std.proofs.lemmas.List.{append_assoc, length-map, length-set}
+use Rattle.std.proofs.lemmas.List.Edits.{insert-append_left, length-insert, length-remove, remove-append_left}
+use Rattle.std.proofs.lemmas.Option.{none-some, same_Some, slice_get-map, slice_get_read, slice_get_within}
 use Rattle.esis_tables.specs.declared.table.Entry.{Entry}
-use Rattle.esis_tables.specs.Slots.{AreApart, AreKeysOf, entries_in}
-use Rattle.esis_tables.specs.State.{key_in}
+use Rattle.esis_tables.specs.Slots.{AreApart, AreTaken, entries_in}
+use Rattle.esis_tables.specs.State.{TableState, key_in}
 use Rattle.esis_tables.proofs.Keeping.{all_insert, all_remove}
-use Rattle.nsap.proofs.ClnpBase.Lists.{AllByRecursion-both, AllByRecursion-implies, AllByRecursion-slice_get}
+use Rattle.nsap.proofs.ClnpBase.Lists.{AllByRecursion-front, AllByRecursion-implies, AllByRecursion-push, AllByRecursion-slice_get, slice_get-set, slice_get-set_other, slice_get_some}
+
+-- ---- lists one behind the other
+
+all_last : {X : Type 0} (P : X → Type 0) (xs : List X) (x : X) → AllByRecursion P (xs ++ x ∷ []) → P x
+all_last P [] x all = all.0
+all_last P (first ∷ others) x all = all_last P others x all.1
+
+all_back : {X : Type 0} (P : X → Type 0) (xs ys : List X) → AllByRecursion P (xs ++ ys) → AllByRecursion P ys
+all_back P [] ys all = all
+all_back P (x ∷ xs) ys all = all_back P xs ys all.1
+
+at_front : {X : Type 0} (xs ys : List X) (place : ℕ) (x : X) → slice_get xs place ≡ Some x → slice_get (xs ++ ys) place ≡ Some x
+at_front [] ys place x e = absurd (none-some x e)
+at_front (first ∷ others) ys zero x e = e
+at_front (first ∷ others) ys (suc place) x e = at_front others ys place x e
+
+apart_front : (slots others : List ℕ) → AreApart (slots ++ others) → AreApart slots
+apart_front [] others apart = tt
+apart_front (first ∷ slots) others apart =
+    (AllByRecursion-front (λ other. other ≢ first) slots others apart.0, apart_front slots others apart.1)
 
 -- ---- slots of which none stands twice
 
-pub AreApart-insert : (slots : List ℕ) (place slot : ℕ) → place ≤ length slots → AreApart slots → AllByRecursion (λ other. other ≢ slot) slots
-    → AreApart (insert slots place slot)
+AreApart-insert : (slots : List ℕ) (place slot : ℕ) → place ≤ length slots → AreApart slots
+    → AllByRecursion (λ other. other ≢ slot) slots → AreApart (insert slots place slot)
 AreApart-insert [] zero slot within apart differ = (tt, tt)
 AreApart-insert [] (suc place) slot within apart differ = absurd (omega (arith, within))
 AreApart-insert (first ∷ others) zero slot within apart differ = (differ, apart)
@@ -25,11 +45,41 @@ AreApart-insert (first ∷ others) (suc place) slot within apart differ = (
   AreApart-insert others place slot (omega (arith, within)) apart.1 differ.1,
 )
 
-pub AreApart-remove : (slots : List ℕ) (place : ℕ) → place < length slots → AreApart slots → AreApart (remove slots place)
+AreApart-remove : (slots : List ℕ) (place : ℕ) → place < length slots → AreApart slots → AreApart (remove slots place)
 AreApart-remove [] place within apart = absurd (omega (arith, within))
 AreApart-remove (first ∷ others) zero within apart = apart.1
 AreApart-remove (first ∷ others) (suc place) within apart =
     (all_remove (λ other. other ≢ first) others place apart.0, AreApart-remove others place (omega (arith, within)) apart.1)
+
+-- one that is taken out stands nowhere else
+others_differ : (slots : List ℕ) (place slot : ℕ) → AreApart slots → slice_get slots place ≡ Some slot
+    → AllByRecursion (λ other. other ≢ slot) (remove slots place)
+others_differ [] place slot apart e = absurd (none-some slot e)
+others_differ (first ∷ others) zero slot apart e =
+    subst (λ (s : ℕ). AllByRecursion (λ other. other ≢ s) others) (same_Some first slot e) apart.0
+others_differ (first ∷ others) (suc place) slot apart e = (
+  λ same. AllByRecursion-slice_get (λ other. other ≢ first) others place slot e apart.0 (sym same),
+  others_differ others place slot apart.1 e,
+)
+
+-- another one behind them
+apart_push : (slots : List ℕ) (slot : ℕ) → AreApart slots → AllByRecursion (λ other. other ≢ slot) slots
+    → AreApart (slots ++ slot ∷ [])
+apart_push [] slot apart differ = (tt, tt)
+apart_push (first ∷ others) slot apart differ = (
+  AllByRecursion-push (λ other. other ≢ first) others slot apart.0 (λ same. differ.0 (sym same)),
+  apart_push others slot apart.1 differ.1,
+)
+
+-- the last comes to the front
+last_moved : (slots : List ℕ) (slot : ℕ) → AreApart (slots ++ slot ∷ []) → AreApart (slot ∷ slots)
+last_moved [] slot apart = (tt, tt)
+last_moved (first ∷ others) slot apart =
+    let rest = last_moved others slot apart.1 in
+    let differs = all_last (λ other. other ≢ first) others slot apart.0 in (
+      (λ same. differs (sym same), rest.0),
+      (AllByRecursion-front (λ other. other ≢ first) others (slot ∷ []) apart.0, rest.1),
+    )
 
 -- ---- what stands in slots
 
@@ -52,27 +102,11 @@ set-cons_option : {X : Type 0} (option : Option X) (xs : List X) (place : ℕ) (
 set-cons_option None xs place x e = absurd (false≢true e)
 set-cons_option (Some y) xs place x e = refl
 
--- ---- a slot with another value
-
-pub slot_within : {X : Type 0} (slots : List (Option X)) (slot : ℕ) → is_some (slice_index_or slots slot None) ≡ true → slot < length slots
-slot_within [] slot e = absurd (false≢true e)
-slot_within (first ∷ others) zero e = omega arith
-slot_within (first ∷ others) (suc slot) e = omega (arith, slot_within others slot e)
-
-pub number_again : {X : Type 0} (slots : List (Option X)) (slot : ℕ) (x : X) → is_some (slice_index_or slots slot None) ≡ true
-    → count_by is_some (slice_set slots slot (Some x)) ≡ count_by is_some slots
-number_again slots slot x taken =
-    omega (
-      arith,
-      sum_by-set (λ option. cond (is_some option) 1 0) slots slot (Some x) None (slot_within slots slot taken),
-      ap {B = ℕ} (λ (b : Bool). cond b 1 0) taken,
-    )
-
 module _ {X : Type 0} (old : ℕ → Option X) where
-  abbrev pub AllTaken : List ℕ → Type 0
+  abbrev AllTaken : List ℕ → Type 0
   AllTaken slots = AllByRecursion (λ slot. is_some (old slot) ≡ true) slots
 
-  pub list_at : (slots : List ℕ) (place slot : ℕ) → AllTaken slots → slice_get slots place ≡ Some slot
+  list_at : (slots : List ℕ) (place slot : ℕ) → AllTaken slots → slice_get slots place ≡ Some slot
       → slice_get (filter_map old slots) place ≡ old slot
   list_at [] place slot taken e = absurd (none-some slot e)
   list_at (first ∷ others) zero slot taken e =
@@ -82,158 +116,202 @@ module _ {X : Type 0} (old : ℕ → Option X) where
       let there = value_there (old first) taken.0 in
       rw there.1 (list_at others place slot taken.1 e)
 
-  pub length-list : (slots : List ℕ) → AllTaken slots → length (filter_map old slots) ≡ length slots
+  -- a slot less
+  list-remove : (slots : List ℕ) (place : ℕ) → AllTaken slots
+      → filter_map old (remove slots place) ≡ remove (filter_map old slots) place
+  list-remove [] zero taken = refl
+  list-remove [] (suc place) taken = refl
+  list-remove (first ∷ others) zero taken =
+      let there = value_there (old first) taken.0 in
+      rw there.1 refl
+  list-remove (first ∷ others) (suc place) taken =
+      ap (λ (l : List X). cons_option (old first) l) (list-remove others place taken.1)
+      ∙ sym (remove-cons_option (old first) (filter_map old others) place taken.0)
+
+  length-list : (slots : List ℕ) → AllTaken slots → length (filter_map old slots) ≡ length slots
   length-list [] taken = refl
   length-list (first ∷ others) taken =
       let there = value_there (old first) taken.0 in
       rw there.1 (ap suc (length-list others taken.1))
 
   module _ (new : ℕ → Option X) (slot : ℕ) (others_stay : (other : ℕ) → other ≢ slot → new other ≡ old other) where
-    stays_taken : (other : ℕ) → other ≢ slot → is_some (old other) ≡ true → is_some (new other) ≡ true
-    stays_taken other differs taken = ap is_some (others_stay other differs) ∙ taken
-
     list-same : (slots : List ℕ) → AllByRecursion (λ other. other ≢ slot) slots → filter_map new slots ≡ filter_map old slots
     list-same [] differ = refl
     list-same (first ∷ others) differ =
         rw (others_stay first differ.0) (ap (λ (l : List X). cons_option (old first) l) (list-same others differ.1))
 
     -- a slot more
-    module _ (was_free : old slot ≡ None) where
-      free_differs : (other : ℕ) → is_some (old other) ≡ true → other ≢ slot
-      free_differs other taken = λ same. false≢true (sym (ap is_some (ap old same ∙ was_free)) ∙ taken)
+    list-insert : (slots : List ℕ) (place : ℕ) (x : X) → place ≤ length slots → AllTaken slots
+        → AllByRecursion (λ other. other ≢ slot) slots → new slot ≡ Some x
+        → filter_map new (insert slots place slot) ≡ insert (filter_map old slots) place x
+    list-insert [] zero x within taken differ here = rw here refl
+    list-insert [] (suc place) x within taken differ here = absurd (omega (arith, within))
+    list-insert (first ∷ others) zero x within taken differ here =
+        rw here (ap (λ (l : List X). x ∷ l) (list-same (first ∷ others) differ))
+    list-insert (first ∷ others) (suc place) x within taken differ here =
+        let same = others_stay first differ.0 in
+        let rest = list-insert others place x (omega (arith, within)) taken.1 differ.1 here in
+        (λ i. cons_option (same i) (rest i)) ∙ sym (insert-cons_option (old first) (filter_map old others) place x taken.0)
 
-      pub all_differ : (slots : List ℕ) → AllTaken slots → AllByRecursion (λ other. other ≢ slot) slots
-      all_differ slots taken =
-          AllByRecursion-implies (λ other. is_some (old other) ≡ true) (λ other. other ≢ slot) free_differs slots taken
-
-      pub taken-insert : (slots : List ℕ) (place : ℕ) → AllTaken slots → is_some (new slot) ≡ true
-          → AllByRecursion (λ other. is_some (new other) ≡ true) (insert slots place slot)
-      taken-insert slots place taken here =
-          all_insert (λ other. is_some (new other) ≡ true) slots place slot here
-          (AllByRecursion-implies (λ other. is_some (old other) ≡ true) (λ other. is_some (new other) ≡ true)
-          (λ other there. stays_taken other (free_differs other there) there) slots taken)
-
-      pub list-insert : (slots : List ℕ) (place : ℕ) (x : X) → place ≤ length slots → AllTaken slots → new slot ≡ Some x
-          → filter_map new (insert slots place slot) ≡ insert (filter_map old slots) place x
-      list-insert [] zero x within taken here = rw here refl
-      list-insert [] (suc place) x within taken here = absurd (omega (arith, within))
-      list-insert (first ∷ others) zero x within taken here =
-          rw here (ap (λ (l : List X). x ∷ l) (list-same (first ∷ others) (all_differ (first ∷ others) taken)))
-      list-insert (first ∷ others) (suc place) x within taken here =
-          let same = others_stay first (free_differs first taken.0) in
-          let rest = list-insert others place x (omega (arith, within)) taken.1 here in
-          (λ i. cons_option (same i) (rest i)) ∙ sym (insert-cons_option (old first) (filter_map old others) place x taken.0)
-
-    -- a slot less, and one with another value
+    -- a slot with another value
     first_differs : (first : ℕ) (others : List ℕ) → AllByRecursion (λ other. other ≢ first) others → first ≡ slot
         → AllByRecursion (λ other. other ≢ slot) others
-    first_differs first others apart e =
-        AllByRecursion-implies (λ other. other ≢ first) (λ other. other ≢ slot) (λ other differs. λ same. differs (same ∙ sym e)) others apart
+    first_differs first others apart e = subst (λ (s : ℕ). AllByRecursion (λ other. other ≢ s) others) e apart
 
-    other_than_first : (first place : ℕ) (others : List ℕ) → AllByRecursion (λ other. other ≢ first) others → slice_get others place ≡ Some slot → first ≢ slot
-    other_than_first first place others apart e = λ same. AllByRecursion-slice_get (λ other. other ≢ first) others place slot e apart (sym same)
+    other_than_first : (first place : ℕ) (others : List ℕ) → AllByRecursion (λ other. other ≢ first) others
+        → slice_get others place ≡ Some slot → first ≢ slot
+    other_than_first first place others apart e =
+        λ same. AllByRecursion-slice_get (λ other. other ≢ first) others place slot e apart (sym same)
 
-    pub taken-remove : (slots : List ℕ) (place : ℕ) → AreApart slots → AllTaken slots → slice_get slots place ≡ Some slot
-        → AllByRecursion (λ other. is_some (new other) ≡ true) (remove slots place)
-    taken-remove [] place apart taken e = absurd (none-some slot e)
-    taken-remove (first ∷ others) zero apart taken e =
-        AllByRecursion-both (λ other. other ≢ slot) (λ other. is_some (old other) ≡ true) (λ other. is_some (new other) ≡ true)
-        stays_taken others (first_differs first others apart.0 (same_Some first slot e)) taken.1
-    taken-remove (first ∷ others) (suc place) apart taken e =
-        (stays_taken first (other_than_first first place others apart.0 e) taken.0, taken-remove others place apart.1 taken.1 e)
-
-    pub list-remove : (slots : List ℕ) (place : ℕ) → AreApart slots → AllTaken slots → slice_get slots place ≡ Some slot
-        → filter_map new (remove slots place) ≡ remove (filter_map old slots) place
-    list-remove [] place apart taken e = absurd (none-some slot e)
-    list-remove (first ∷ others) zero apart taken e =
-        let there = value_there (old first) taken.0 in
-        rw there.1 (list-same others (first_differs first others apart.0 (same_Some first slot e)))
-    list-remove (first ∷ others) (suc place) apart taken e =
-        let same = others_stay first (other_than_first first place others apart.0 e) in
-        let rest = list-remove others place apart.1 taken.1 e in
-        (λ i. cons_option (same i) (rest i)) ∙ sym (remove-cons_option (old first) (filter_map old others) place taken.0)
-
-    pub taken-set : (slots : List ℕ) → AllTaken slots → is_some (new slot) ≡ true → AllByRecursion (λ other. is_some (new other) ≡ true) slots
-    taken-set slots taken here =
-        AllByRecursion-implies (λ other. is_some (old other) ≡ true) (λ other. is_some (new other) ≡ true) either slots taken
-      where
-        either : (other : ℕ) → is_some (old other) ≡ true → is_some (new other) ≡ true
-        either other there =
-            elim (cases_eq other slot) [
-              | inl same ↦ ap (λ (s : ℕ). is_some (new s)) same ∙ here
-              | inr differs ↦ stays_taken other differs there
-            ]
-
-    pub list-set : (slots : List ℕ) (place : ℕ) (x : X) → AreApart slots → AllTaken slots → slice_get slots place ≡ Some slot → new slot ≡ Some x
-        → filter_map new slots ≡ slice_set (filter_map old slots) place x
+    list-set : (slots : List ℕ) (place : ℕ) (x : X) → AreApart slots → AllTaken slots → slice_get slots place ≡ Some slot
+        → new slot ≡ Some x → filter_map new slots ≡ slice_set (filter_map old slots) place x
     list-set [] place x apart taken e here = absurd (none-some slot e)
     list-set (first ∷ others) zero x apart taken e here =
         let there = value_there (old first) taken.0 in
-        let value : new first ≡ Some x = ap new (same_Some first slot e) ∙ here in
-        rw there.1 (rw value (ap (λ (l : List X). x ∷ l) (list-same others (first_differs first others apart.0 (same_Some first slot e)))))
+        let is = same_Some first slot e in
+        let value : new first ≡ Some x = ap new is ∙ here in
+        rw there.1 (rw value (ap (λ (l : List X). x ∷ l) (list-same others (first_differs first others apart.0 is))))
     list-set (first ∷ others) (suc place) x apart taken e here =
         let same = others_stay first (other_than_first first place others apart.0 e) in
         let rest = list-set others place x apart.1 taken.1 e here in
         (λ i. cons_option (same i) (rest i)) ∙ sym (set-cons_option (old first) (filter_map old others) place x taken.0)
 
--- ---- keys beside the entries
+-- ---- slots that are taken or free
 
--- a slot is another one, and its key is noted
-pub keys_again : (old new : Slab Entry) (before after : List (List ℕ)) (slot : ℕ)
-    → ((other : ℕ) → other ≢ slot → get new other ≡ get old other)
-    → ((entry : Entry) → get new slot ≡ Some entry → slice_get after slot ≡ Some entry.key)
-    → ((other : ℕ) (key : List ℕ) → other ≢ slot → slice_get before other ≡ Some key → slice_get after other ≡ Some key)
-    → AreKeysOf old before → AreKeysOf new after
-keys_again old new before after slot others_stay here others keys other entry there =
-    elim (cases_eq other slot) [
-      | inl same ↦ subst (λ (s : ℕ). slice_get after s ≡ Some entry.key) (sym same) (here entry (ap (get new) (sym same) ∙ there))
-      | inr differs ↦ others other entry.key differs (keys other entry (sym (others_stay other differs) ∙ there))
-    ]
+there_below : {X : Type 0} (xs : List X) (place : ℕ) → place < length xs → is_some (slice_get xs place) ≡ true
+there_below xs place within = ap is_some (slice_get_some xs place within).1
 
--- where a slot gets an entry, with its key
-pub keys_with : (old new : Slab Entry) (before after : List (List ℕ)) (slot : ℕ) (entry : Entry)
-    → ((other : ℕ) → other ≢ slot → get new other ≡ get old other) → get new slot ≡ Some entry → slice_get after slot ≡ Some entry.key
-    → ((other : ℕ) (key : List ℕ) → other ≢ slot → slice_get before other ≡ Some key → slice_get after other ≡ Some key)
-    → AreKeysOf old before → AreKeysOf new after
-keys_with old new before after slot entry others_stay there noted =
-    keys_again old new before after slot others_stay
-    (λ other same. noted ∙ ap (λ (e : Entry). Some e.key) (same_Some entry other (sym there ∙ same)))
+module _ {entries : List Entry} {taken free : List ℕ} (are : AreTaken entries taken free) where
+  abbrev IsWithin : ℕ → Type 0
+  IsWithin slot = slot < length entries
 
--- where a slot is free then
-pub keys_without : (old new : Slab Entry) (keys : List (List ℕ)) (slot : ℕ)
-    → ((other : ℕ) → other ≢ slot → get new other ≡ get old other) → get new slot ≡ None → AreKeysOf old keys → AreKeysOf new keys
-keys_without old new keys slot others_stay free =
-    keys_again old new keys keys slot others_stay (λ entry there. absurd (none-some entry (sym free ∙ there))) (λ other key differs same. same)
+  all_within : AllByRecursion IsWithin taken
+  all_within = AllByRecursion-front IsWithin taken free are.within
 
--- the key at a slot is that of the entry at its place
-pub key_there : (entries : Slab Entry) (keys : List (List ℕ)) (slots : List ℕ) (place slot : ℕ) (key : List ℕ)
-    → AllByRecursion (ContainsKey entries) slots → AreKeysOf entries keys → slice_get slots place ≡ Some slot
-    → key ≡ slice_index_or keys slot key → option_map key_in (slice_get (entries_in entries slots) place) ≡ Some key
-key_there entries keys slots place slot key taken beside at read =
-    let there = value_there (get entries slot) (AllByRecursion-slice_get (ContainsKey entries) slots place slot at taken) in
-    let noted = beside slot there.0 there.1 in
-    let same = get_or_from_slice_get keys slot there.0.key key noted in
-    ap (option_map key_in) (list_at (get entries) slots place slot taken at ∙ there.1)
-    ∙ ap Some (sym (read ∙ same))
+  all_there : AllTaken (slice_get entries) taken
+  all_there =
+      AllByRecursion-implies IsWithin (λ slot. is_some (slice_get entries slot) ≡ true) (there_below entries) taken all_within
 
--- the slot of each place has a key
-pub key_within : (entries : Slab Entry) (keys : List (List ℕ)) (slots : List ℕ) (place slot : ℕ)
-    → AllByRecursion (ContainsKey entries) slots → AreKeysOf entries keys → slice_get slots place ≡ Some slot → slot < length keys
-key_within entries keys slots place slot taken beside at =
-    let there = value_there (get entries slot) (AllByRecursion-slice_get (ContainsKey entries) slots place slot at taken) in
-    slice_get_within keys slot there.0.key (beside slot there.0 there.1)
+  pub free_within : AllByRecursion IsWithin free
+  free_within = all_back IsWithin taken free are.within
 
--- one key is written
-pub key_set_others : (keys : List (List ℕ)) (slot : ℕ) (key : List ℕ) (other : ℕ) (kept : List ℕ) → other ≢ slot
-    → slice_get keys other ≡ Some kept → slice_get (slice_set keys slot key) other ≡ Some kept
-key_set_others [] slot key other kept differs there = there
-key_set_others (first ∷ others) zero key zero kept differs there = absurd (differs refl)
-key_set_others (first ∷ others) zero key (suc other) kept differs there = there
-key_set_others (first ∷ others) (suc slot) key zero kept differs there = there
-key_set_others (first ∷ others) (suc slot) key (suc other) kept differs there =
-    key_set_others others slot key other kept (λ same. differs (ap suc same)) there
+  pub as_many : {limit : ℕ} {seen : TableState}
+      → ◌≡◌ {A = TableState} (record { limit = limit; entries = entries_in entries taken }) seen
+      → length seen.entries ≡ length taken
+  as_many is = ap (λ (s : TableState). length s.entries) (sym is) ∙ length-list (slice_get entries) taken all_there
 
-pub key_set_here : (keys : List (List ℕ)) (slot : ℕ) (key : List ℕ) → slot < length keys → slice_get (slice_set keys slot key) slot ≡ Some key
-key_set_here [] slot key within = absurd (omega (arith, within))
-key_set_here (first ∷ others) zero key within = refl
-key_set_here (first ∷ others) (suc slot) key within = key_set_here others slot key (omega (arith, within))
+  -- the slot that is read at a place
+  pub slot_read : {limit : ℕ} {seen : TableState} {place read slot : ℕ}
+      → ◌≡◌ {A = TableState} (record { limit = limit; entries = entries_in entries taken }) seen → place < length seen.entries
+      → read ≡ slice_index_or taken place read → slot ≡ read → slice_get taken place ≡ Some slot
+  slot_read {place = place} {read = read} is within there same =
+      slice_get_read taken (length taken) place read refl (omega (arith, within, as_many is)) there ∙ ap Some (sym same)
+
+  module _ (place : ℕ) {slot : ℕ} (at : slice_get taken place ≡ Some slot) where
+    pub within_at : slot < length entries
+    within_at = AllByRecursion-slice_get IsWithin taken place slot at all_within
+
+    entry_at : slice_get (entries_in entries taken) place ≡ slice_get entries slot
+    entry_at = list_at (slice_get entries) taken place slot all_there at
+
+    pub entry_read : (entry : Entry) → entry ≡ slice_index_or entries slot entry
+        → slice_get (entries_in entries taken) place ≡ Some entry
+    entry_read entry read = entry_at ∙ slice_get_read entries (length entries) slot entry refl within_at read
+
+    module _ {keys : List (List ℕ)} (beside : keys ≡ map key_in entries) where
+      pub key_within : slot < length keys
+      key_within = omega (arith, within_at, ap (λ (l : List (List ℕ)). length l) beside, length-map entries key_in)
+
+      pub key_read : (key : List ℕ) → key ≡ slice_index_or keys slot key
+          → option_map key_in (slice_get (entries_in entries taken) place) ≡ Some key
+      key_read key read =
+          ap (option_map key_in) entry_at ∙ sym (slice_get-map key_in entries slot)
+          ∙ ap (λ (l : List (List ℕ)). slice_get l slot) (sym beside)
+          ∙ slice_get_read keys (length keys) slot key refl key_within read
+
+    -- its entry is another one
+    pub set_entries : (entry : Entry)
+        → entries_in (slice_set entries slot entry) taken ≡ slice_set (entries_in entries taken) place entry
+    set_entries entry =
+        list-set (slice_get entries) (slice_get (slice_set entries slot entry)) slot
+        (λ other differs. slice_get-set_other entries slot other entry (λ same. differs (sym same))) taken place entry
+        (apart_front taken free are.apart) all_there at (slice_get-set entries slot entry within_at)
+
+    -- it is taken out
+    pub out_entries : entries_in entries (remove taken place) ≡ remove (entries_in entries taken) place
+    out_entries = list-remove (slice_get entries) taken place all_there
+
+    pub out_taken : AreTaken entries (remove taken place) (free ++ slot ∷ [])
+    out_taken =
+        let short : place < length taken = slice_get_within taken place slot at in
+        let left = remove-append_left taken free place short in
+        let at_all : slice_get (taken ++ free) place ≡ Some slot = at_front taken free place slot at in
+        let within_all = slice_get_within (taken ++ free) place slot at_all in
+        let together = append_assoc (remove taken place) free (slot ∷ []) in record {
+          within = subst (AllByRecursion IsWithin) together
+              (AllByRecursion-push IsWithin (remove taken place ++ free) slot
+              (subst (AllByRecursion IsWithin) left (all_remove IsWithin (taken ++ free) place are.within)) within_at);
+          apart = subst AreApart together (apart_push (remove taken place ++ free) slot
+              (subst AreApart left (AreApart-remove (taken ++ free) place within_all are.apart))
+              (subst (AllByRecursion (λ other. other ≢ slot)) left (others_differ (taken ++ free) place slot are.apart at_all)));
+          number = omega (arith, length-remove taken place short, length-append free (slot ∷ []), are.number);
+        }
+
+  pub set_taken : (slot : ℕ) (entry : Entry) → AreTaken (slice_set entries slot entry) taken free
+  set_taken slot entry =
+      let same = length-set entries slot entry in record {
+        within = rw same are.within;
+        apart = are.apart;
+        number = are.number ∙ sym same;
+      }
+
+-- a slot is filled, and comes to an entry's place
+module _ {old new : List Entry} {taken free left : List ℕ} {slot : ℕ} (are : AreTaken old taken free)
+    (then : AreTaken new (slot ∷ taken) left) {place : ℕ} (within : place ≤ length taken) where
+  pub put_entries : (entry : Entry) → ((other : ℕ) → other ≢ slot → slice_get new other ≡ slice_get old other)
+      → slice_get new slot ≡ Some entry → entries_in new (insert taken place slot) ≡ insert (entries_in old taken) place entry
+  put_entries entry others here =
+      list-insert (slice_get old) (slice_get new) slot others taken place entry within (all_there are)
+      (AllByRecursion-front (λ other. other ≢ slot) taken left then.apart.0) here
+
+  pub put_taken : AreTaken new (insert taken place slot) left
+  put_taken =
+      let moved = insert-append_left taken left place slot within in
+      let within_all : place ≤ length (taken ++ left) = omega (arith, within, length-append taken left) in
+      let IsThere : ℕ → Type 0 = λ slot. slot < length new in record {
+        within = subst (AllByRecursion IsThere) moved (all_insert IsThere (taken ++ left) place slot then.within.0 then.within.1);
+        apart = subst AreApart moved (AreApart-insert (taken ++ left) place slot within_all then.apart.1 then.apart.0);
+        number = omega (arith, length-insert taken place slot within, then.number);
+      }
+
+-- a slot that was free is taken
+pub filled_taken : (entries : List Entry) (taken left : List ℕ) (slot : ℕ) (entry : Entry)
+    → AreTaken entries taken (left ++ slot ∷ []) → AreTaken (slice_set entries slot entry) (slot ∷ taken) left
+filled_taken entries taken left slot entry are =
+    let together = sym (append_assoc taken left (slot ∷ [])) in
+    let same = length-set entries slot entry in
+    let IsThere : ℕ → Type 0 = λ slot. slot < length entries in
+    let all = subst (AllByRecursion IsThere) together are.within in record {
+      within = subst (λ (n : ℕ). AllByRecursion (λ other. other < n) (slot ∷ (taken ++ left))) (sym same)
+          (all_last IsThere (taken ++ left) slot all, AllByRecursion-front IsThere (taken ++ left) (slot ∷ []) all);
+      apart = last_moved (taken ++ left) slot (subst AreApart together are.apart);
+      number = omega (arith, length-append left (slot ∷ []), are.number, same);
+    }
+
+-- a slot comes behind the others
+pub pushed_taken : (entries : List Entry) (taken free : List ℕ) (entry : Entry) → AreTaken entries taken free
+    → AreTaken (entries ++ entry ∷ []) (length entries ∷ taken) free
+pushed_taken entries taken free entry are =
+    let longer = length-append entries (entry ∷ []) in record {
+      within = (
+        omega (arith, longer),
+        AllByRecursion-implies (λ slot. slot < length entries) (λ slot. slot < length (entries ++ entry ∷ []))
+            (λ slot below. omega (arith, longer, below)) (taken ++ free) are.within,
+      );
+      apart = (
+        AllByRecursion-implies (λ slot. slot < length entries) (λ slot. slot ≢ length entries)
+            (λ slot below. λ same. omega (arith, below, same)) (taken ++ free) are.within,
+        are.apart,
+      );
+      number = omega (arith, longer, are.number);
+    }

@@ -1,46 +1,50 @@
 //! Entries that stay where they are.
-ghost use Rattle.std.specs.Prelude.{◌≡◌, ◌≢◌, ◌<◌, ◌≤◌, ℕ, List, [], nat_le, insert, length, remove, IfOk, Some, slice_get, slice_set, vec_capacity};
+ghost use Rattle.std.specs.Prelude.{◌≡◌, ◌≢◌, ◌<◌, ◌≤◌, ◌+◌, ◌-◌, ◌^◌, ℕ, List, [], ◌∷◌, nat_le, insert, length, map, remove, IfOk, Some, slice_get, slice_set, vec_capacity};
+ghost use Rattle.std.specs.List.{AllByRecursion};
 ghost use Rattle.std.specs.Option.{option_map};
+ghost use Rattle.esis_tables.specs.Slots.{AreTaken};
 ghost use Rattle.esis_tables.specs.State.{key_in};
 
 use super::Entry;
 use nsap::Address;
 use nsap::base::NoMemory;
-use slab::Slab;
 use std::alloc::Global;
 use std::marker::Model;
 
-/// The most slots that there may be: two octets tell them apart.
-const MOST_SLOTS: usize = 65_536;
-
 /// The entries of a table, in their order.
 ///
-/// Each stays in its slot until it is taken out: where one comes or goes, the numbers of the slots behind it move, and no entry.
-/// A contract sees the entries in their order, and how many there may be.
+/// Each stays in its slot until it is taken out: where one comes or goes, the numbers of the slots
+/// behind it move, and no entry. A contract sees the entries in their order, and how many there may
+/// be.
 #[derive(Drop)]
 pub(super) struct Slots {
     limit: u16,
-    entries: Slab<Entry>,
-    /// The keys of the entries once more, by slot. They stand so close that a search waits less for memory than if it read
-    /// the entries. Where a slot isn't taken, any key may stand.
+    /// By slot. Where a slot is free, that which was taken out last stands there still.
+    entries: Vec<Entry>,
+    /// The keys of the entries once more, by slot: a search reads them alone, and an entry that is
+    /// written over isn't read.
     keys: Vec<Address>,
     /// The slots that are taken, in the order of their entries.
     order: Vec<u16>,
+    /// The slots that are free.
+    free: Vec<u16>,
 }
 
 impl Model for Slots {
-    ghost use Rattle.std.specs.Prelude.{◌<◌, ◌≤◌, ◌^◌, length, vec_capacity};
-    ghost use Rattle.esis_tables.specs.Slots.{AreKeysOf, AreTaken, entries_in};
-    ghost use Rattle.esis_tables.specs.State.{TableState};
+    ghost use Rattle.std.specs.Prelude.{◌≡◌, ◌<◌, ◌≤◌, ◌^◌, length, map, vec_capacity};
+    ghost use Rattle.esis_tables.specs.Slots.{AreTaken, entries_in};
+    ghost use Rattle.esis_tables.specs.State.{TableState, key_in};
 
     ghost Value = { TableState };
 
-    ghost view = { λ s. record { limit = s.limit; entries = entries_in s.entries s.order.items } };
+    ghost view = { λ s. record { limit = s.limit; entries = entries_in s.entries.items s.order.items } };
 
     // Room for all that the limit allows was reserved when the slots were made.
-    ghost invariant = { λ s. AreTaken s.entries s.order.items × (length s.order.items ≤ s.limit) × (s.limit < 2 ^ 16)
-        × (s.limit ≤ s.entries.capacity) × (s.limit ≤ vec_capacity s.order) × (s.entries.capacity ≤ 2 ^ 16)
-        × AreKeysOf s.entries s.keys.items × (s.entries.capacity ≤ vec_capacity s.keys) };
+    ghost invariant = { λ s. AreTaken s.entries.items s.order.items s.free.items
+        × (s.keys.items ≡ map key_in s.entries.items)
+        × (length s.entries.items ≤ s.limit) × (s.limit < 2 ^ 16)
+        × (s.limit ≤ vec_capacity s.entries) × (s.limit ≤ vec_capacity s.keys)
+        × (s.limit ≤ vec_capacity s.order) × (s.limit ≤ vec_capacity s.free) };
 }
 
 impl Slots {
@@ -53,24 +57,12 @@ impl Slots {
         ensures limit { IfOk result (λ slots. slots.limit ≡ limit) }
         ensures empty { IfOk result (λ slots. slots.entries ≡ []) }
     {
-        let Ok(entries) = Slab::with_capacity(alloc, usize::from(limit)) else {
-            return Err(NoMemory);
-        };
-        // More room than was asked for could give slots that two octets don't name.
-        if entries.capacity() > MOST_SLOTS {
-            return Err(NoMemory);
-        }
-        let Ok(order) = Vec::with_capacity(alloc, usize::from(limit)) else {
-            return Err(NoMemory);
-        };
-        let Ok(keys) = Vec::with_capacity(alloc, entries.capacity()) else {
-            return Err(NoMemory);
-        };
         Ok(Slots {
             limit,
-            entries,
-            keys,
-            order,
+            entries: with_room(alloc, limit)?,
+            keys: with_room(alloc, limit)?,
+            order: with_room(alloc, limit)?,
+            free: with_room(alloc, limit)?,
         })
     }
 
@@ -95,10 +87,7 @@ impl Slots {
         ensures { slice_get self.now.entries place ≡ Some result.now }
     {
         let slot = usize::from(self.order[place]);
-        let Some(entry) = self.entries.get(slot) else {
-            unreachable!()
-        };
-        entry
+        &self.entries[slot]
     }
 
     /// The key of the entry at a place.
@@ -117,9 +106,7 @@ impl Slots {
         ensures entries { self.new.entries ≡ insert self.old.entries place entry }
         ensures limit { self.new.limit ≡ self.old.limit }
     {
-        let key = entry.key;
-        let slot = self.entries.insert_reserved(entry) as u16;
-        write_key(&mut self.keys, usize::from(slot), key);
+        let slot = fill(&mut self.entries, &mut self.keys, &mut self.free, entry);
         let Ok(()) = self.order.insert(place, slot) else {
             unreachable!()
         };
@@ -133,10 +120,7 @@ impl Slots {
     {
         let key = entry.key;
         let slot = usize::from(self.order[place]);
-        let Some(kept) = self.entries.get_mut(slot) else {
-            unreachable!()
-        };
-        *kept = entry;
+        self.entries[slot] = entry;
         self.keys[slot] = key;
     }
 
@@ -148,7 +132,10 @@ impl Slots {
         ensures limit { self.new.limit ≡ self.old.limit }
     {
         let slot = self.order.remove(place);
-        self.entries.remove(usize::from(slot))
+        let Ok(()) = self.free.push(slot) else {
+            unreachable!()
+        };
+        self.entries[usize::from(slot)]
     }
 
     /// Takes all out.
@@ -157,23 +144,49 @@ impl Slots {
         ensures limit { self.new.limit ≡ self.old.limit }
     {
         self.entries.clear();
+        self.keys.clear();
         self.order.clear();
+        self.free.clear();
     }
 }
 
-/// Writes a key at a slot for which there is room.
-fn write_key(keys: &mut Vec<Address>, slot: usize, key: Address)
-    requires { slot < vec_capacity keys.old }
-    ensures there { slice_get keys.new.items slot ≡ Some key }
-    ensures others { (other : ℕ) (kept : List ℕ) → other ≢ slot → slice_get keys.old.items other ≡ Some kept
-        → slice_get keys.new.items other ≡ Some kept }
-    ensures capacity { vec_capacity keys.old ≤ vec_capacity keys.new }
+/// A list with room for so many.
+fn with_room<T>(alloc: Global, most: u16) -> Result<Vec<T>, NoMemory>
+    ensures empty { IfOk result (λ list. list.items ≡ []) }
+    ensures room { IfOk result (λ list. most ≤ vec_capacity list) }
 {
-    if slot < keys.len() {
-        keys[slot] = key;
-        return;
+    Ok(Vec::with_capacity(alloc, usize::from(most))?)
+}
+
+/// Puts an entry and its key into a slot that is free, or into a new one behind the others.
+fn fill(entries: &mut Vec<Entry>, keys: &mut Vec<Address>, free: &mut Vec<u16>, entry: Entry) -> u16
+    requires free { AllByRecursion (λ slot. slot < length entries.old.items) free.old.items }
+    requires keys { keys.old.items ≡ map key_in entries.old.items }
+    requires room { free.old.items ≡ [] → (length entries.old.items < 2 ^ 16)
+        × (length entries.old.items < vec_capacity entries.old)
+        × (length entries.old.items < vec_capacity keys.old) }
+    ensures there { slice_get entries.new.items result ≡ Some entry }
+    ensures others { (other : ℕ) → other ≢ result
+        → slice_get entries.new.items other ≡ slice_get entries.old.items other }
+    ensures number { length entries.new.items
+        ≡ length entries.old.items + (1 - length free.old.items) }
+    ensures keys { keys.new.items ≡ map key_in entries.new.items }
+    ensures taken { (taken : List ℕ) → AreTaken entries.old.items taken free.old.items
+        → AreTaken entries.new.items (result ∷ taken) free.new.items }
+    ensures room { (vec_capacity entries.old ≤ vec_capacity entries.new)
+        × (vec_capacity keys.old ≤ vec_capacity keys.new)
+        × (vec_capacity free.old ≤ vec_capacity free.new) }
+{
+    let key = entry.key;
+    if let Some(slot) = free.pop() {
+        let at = usize::from(slot);
+        entries[at] = entry;
+        keys[at] = key;
+        return slot;
     }
-    let Ok(()) = keys.resize(slot + 1, key) else {
+    let slot = entries.len() as u16;
+    let (Ok(()), Ok(())) = (entries.push(entry), keys.push(key)) else {
         unreachable!()
     };
+    slot
 }
