@@ -5,4 +5,4 @@ pub use Rattle.pdu_header.proofs as PduHeader
 pub use Rattle.esis_tables.proofs as EsisTables
 pub use Rattle.forwarding.proofs as Forwarding
 mod DigitSteps
-pub mod Fronts
+mod Laying

@@ -9,4 +9,5 @@ pub use Rattle.forwarding.specs as Forwarding
 pub mod Configuration
 pub mod Journal
 pub mod Words
+pub mod Laying
 pub mod Asking

@@ -2,30 +2,35 @@
 //! octet are looked up in a vector.
 //!
 //! To ask it for each octet takes seven times as long.
-ghost use Rattle.std.specs.Prelude.{◌≡◌, ◌*◌, ◌/◌, ◌%◌, ◌++◌, length, map, slice_index, OnOk, OnErr};
+ghost use Rattle.std.specs.Prelude.{◌≡◌, ◌*◌, ◌/◌, ◌%◌, length, map, slice_index};
 ghost use Rattle.hex.specs.Hex.{encode_lower, encode_with, lower_digits};
 
-use pdu_header::base::NoMemory;
 use std::simd::prelude::*;
 
-/// Appends octets as hexadecimal digits in lower case, two an octet.
-///
-/// # Errors
-///
-/// `NoMemory`; `out` is then as it was.
-pub(crate) fn push_digits(octets: &[u8], out: &mut Vec<u8>) -> Result<(), NoMemory>
-    ensures written { OnOk result (out.new.items ≡ out.old.items ++ encode_lower octets.now) }
-    ensures same { OnErr result (out.new.items ≡ out.old.items) }
+/// Writes octets over a place as hexadecimal digits in lower case, two an octet; fewer than sixteen are too few for a vector.
+pub(crate) fn lay_digits(octets: &[u8], place: &mut [u8])
+    requires { length place.old ≡ 2 * length octets.now }
+    ensures { place.new ≡ encode_lower octets.now }
 {
-    let start = out.len();
-    out.reserve(2 * octets.len())?;
-    out.resize(start + 2 * octets.len(), 0)?;
-    lay_digits(octets, &mut out[start..]);
-    Ok(())
+    if octets.len() < 16 {
+        return lay_few_digits(octets, place);
+    }
+    lay_blocks(octets, place);
 }
 
-/// Writes octets over a place as hexadecimal digits; those behind the last whole block are too few for a vector.
-fn lay_digits(octets: &[u8], place: &mut [u8])
+/// Writes octets over a place as `hex` does.
+fn lay_few_digits(octets: &[u8], place: &mut [u8])
+    requires { length place.old ≡ 2 * length octets.now }
+    ensures { place.new ≡ encode_lower octets.now }
+{
+    match hex::encode_to_slice(octets, place) {
+        Ok(()) => {}
+        Err(_) => unreachable!(),
+    }
+}
+
+/// Writes octets over a place block by block; those behind the last whole block are too few for a vector.
+fn lay_blocks(octets: &[u8], place: &mut [u8])
     requires { length place.old ≡ 2 * length octets.now }
     ensures { place.new ≡ encode_lower octets.now }
 {

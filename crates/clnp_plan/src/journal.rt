@@ -346,6 +346,7 @@ fn push_label<'a>(start: Start<'a>, label: &'a [u8], out: &mut Vec<u8>) -> Resul
 }
 
 /// Appends the line of a label and a word.
+#[inline(always)]
 fn push_one<'a>(
     start: Start<'a>,
     label: &'a [u8],
@@ -361,6 +362,7 @@ fn push_one<'a>(
 }
 
 /// Appends the line of a label and two words.
+#[inline(always)]
 fn push_two<'a>(
     start: Start<'a>,
     label: &'a [u8],
@@ -377,6 +379,7 @@ fn push_two<'a>(
 }
 
 /// Appends the line of a label and three words.
+#[inline(always)]
 fn push_three<'a>(
     start: Start<'a>,
     label: &'a [u8],

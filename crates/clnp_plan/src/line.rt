@@ -1,14 +1,25 @@
 //! Lines that are written: words separated by one space, each line ended by `\n`.
-ghost use Rattle.std.specs.Prelude.{◌≡◌, [], ◌∷◌, ◌++◌, map, take, length, OnOk, OnErr};
+ghost use Rattle.std.specs.Prelude.{◌≡◌, ◌≤◌, ◌+◌, [], ◌∷◌, ◌++◌, map, take, length, replicate, OnOk, OnErr};
+ghost use Rattle.std.specs.Fmt.{decimal};
 ghost use Rattle.std.specs.List.{flat_map};
 ghost use Rattle.clnp_plan.specs.Journal.{behind_space, line_of, octets_word, on_or_off, target_text};
 ghost use Rattle.clnp_plan.specs.Words.{word_text};
+ghost use Rattle.clnp_plan.specs.Laying.{HasRoom, Lays};
 ghost use Rattle.pdu_header.specs.Kinds.{kind_word};
+ghost use Rattle.pdu_header.specs.Nsap.Prefix.{prefix_text};
+ghost use Rattle.pdu_header.specs.Nsap.Text.{hex_text};
 
-use crate::digits::push_digits;
+use crate::digits::lay_digits;
+use itoa::Buffer;
 use pdu_header::Kind;
-use pdu_header::base::{NoMemory, push, push_decimal, push_hex, push_number};
+use pdu_header::base::{NoMemory, push};
 use pdu_header::nsaps::{Address, Prefix, Target};
+
+/// The most decimal digits of a number.
+const MOST_DIGITS: usize = 20;
+
+/// Zeros that are appended at once, as many as most lines need: to fill with them octet by octet takes longer.
+static ZEROS: [u8; 128] = [0; 128];
 
 /// A word of a line.
 #[derive(Clone, Copy)]
@@ -40,6 +51,7 @@ pub enum Word<'a> {
 /// # Errors
 ///
 /// `NoMemory`; `out` is then as it was.
+#[inline(always)]
 pub fn push_line<'a>(
     first: Word<'a>,
     others: &[Word<'a>],
@@ -49,77 +61,219 @@ pub fn push_line<'a>(
         ≡ out.old.items ++ line_of (word_text first.entry) (map word_text others.now)) }
     ensures same { OnErr result (out.new.items ≡ out.old.items) }
 {
-    let len = out.len();
-    let written = push_whole_line(first, others, out);
-    if written.is_err() {
-        out.truncate(len);
-    }
-    written
-}
-
-/// Appends a line; where memory is refused, some of it stands behind what was there.
-fn push_whole_line<'a>(
-    first: Word<'a>,
-    others: &[Word<'a>],
-    out: &mut Vec<u8>,
-) -> Result<(), NoMemory>
-    ensures written { OnOk result (out.new.items
-        ≡ out.old.items ++ line_of (word_text first.entry) (map word_text others.now)) }
-    ensures kept { OnErr result (take (length out.old.items) out.new.items ≡ out.old.items) }
-{
-    push_word(first, out)?;
-    push_words(others, out)?;
-    push_octet(b'\n', out)
+    // Inlined with what it calls, up to the leaves: the words that a caller names are known then where they are laid.
+    let start = out.len();
+    make_room(room_for_line(&first, others), out)?;
+    let len = lay_line(&first, others, &mut out[start..]);
+    out.truncate(start + len);
+    Ok(())
 }
 
 /// Appends words, each behind a space.
 ///
 /// # Errors
 ///
-/// `NoMemory`; some of them stand then behind what was there.
+/// `NoMemory`; some of them may stand then behind what was there.
 pub fn push_words<'a>(words: &[Word<'a>], out: &mut Vec<u8>) -> Result<(), NoMemory>
     ensures written { OnOk result (out.new.items ≡ out.old.items ++ flat_map behind_space (map word_text words.now)) }
     ensures kept { OnErr result (take (length out.old.items) out.new.items ≡ out.old.items) }
 {
-    for word in words {
-        push_octet(b' ', out)?;
-        push_word(*word, out)?;
-    }
+    let start = out.len();
+    make_room(room_for_words(words), out)?;
+    let len = lay_words(words, 0, &mut out[start..]);
+    out.truncate(start + len);
     Ok(())
 }
 
-/// Appends an octet; one alone is put faster than as a piece.
-fn push_octet(octet: u8, out: &mut Vec<u8>) -> Result<(), NoMemory>
-    ensures written { OnOk result (out.new.items ≡ out.old.items ++ octet ∷ []) }
+/// Appends zeros, over which words are laid.
+fn make_room(count: usize, out: &mut Vec<u8>) -> Result<(), NoMemory>
+    ensures written { OnOk result (out.new.items ≡ out.old.items ++ replicate count 0) }
     ensures same { OnErr result (out.new.items ≡ out.old.items) }
 {
-    out.push(octet)?;
+    if count <= ZEROS.len() {
+        return push(&ZEROS[..count], out);
+    }
+    out.reserve(count)?;
+    out.resize(out.len() + count, 0)?;
     Ok(())
 }
 
-/// Appends a word; where memory is refused, some of it stands behind what was there.
-fn push_word(word: Word<'_>, out: &mut Vec<u8>) -> Result<(), NoMemory>
-    ensures written { OnOk result (out.new.items ≡ out.old.items ++ word_text word.entry) }
-    ensures kept { OnErr result (take (length out.old.items) out.new.items ≡ out.old.items) }
+/// Room for a line; the greatest number where it needs as much or more, which no memory has.
+#[inline(always)]
+fn room_for_line(first: &Word<'_>, others: &[Word<'_>]) -> usize
+    ensures { HasRoom result (line_of (word_text first.now) (map word_text others.now)) }
 {
-    match word {
-        Word::Text(text) => push(text, out),
-        Word::Number(number) => push_decimal(number, out),
-        Word::KeyedNumber(key, number) => push_number(key, number, out),
-        Word::Octet(octet) => push_hex(&[octet], out),
-        Word::Identifier(identifier) => push_hex(&identifier.to_be_bytes(), out),
-        Word::Octets(octets) => push_digits(octets, out),
-        Word::KeyedOctets(key, octets) => {
-            push(key, out)?;
-            push_digits(octets, out)
-        }
-        Word::Address(address) => push_digits(address.as_bytes(), out),
-        Word::Prefix(prefix) => prefix.push_text(out),
+    let words = room_for(first).saturating_add(room_for_words(others));
+    words.saturating_add(1)
+}
+
+/// Room for words, each behind a space.
+#[inline(always)]
+fn room_for_words(words: &[Word<'_>]) -> usize
+    ensures { HasRoom result (flat_map behind_space (map word_text words.now)) }
+{
+    let mut room: usize = 0;
+    for word in words {
+        room = room.saturating_add(1).saturating_add(room_for(word));
+    }
+    room
+}
+
+/// Room for a word.
+#[inline(always)]
+fn room_for(word: &Word<'_>) -> usize
+    ensures { HasRoom result (word_text word.now) }
+{
+    match *word {
+        Word::Text(text) => text.len(),
+        Word::Number(number) => room_for_number(number),
+        Word::KeyedNumber(key, number) => key.len().saturating_add(room_for_number(number)),
+        Word::Octet(octet) => room_for_octets(&[octet]),
+        Word::Identifier(identifier) => room_for_octets(&identifier.to_be_bytes()),
+        Word::Octets(octets) => room_for_octets(octets),
+        Word::KeyedOctets(key, octets) => key.len().saturating_add(room_for_octets(octets)),
+        Word::Address(address) => room_for_octets(address.as_bytes()),
+        Word::Prefix(prefix) => room_for_prefix(prefix),
         Word::Pattern(len, start) => {
-            push_number(b"pat:", u64::from(len), out)?;
-            push_number(b":", u64::from(start), out)
+            let len = b"pat:".len() + room_for_number(u64::from(len));
+            let start = b":".len() + room_for_number(u64::from(start));
+            len + start
         }
     }
+}
+
+/// Room for a number in decimal digits.
+fn room_for_number(number: u64) -> usize
+    ensures enough { length (decimal number) ≤ result }
+    ensures most { result ≤ 20 }
+{
+    MOST_DIGITS
+}
+
+/// Room for octets in two hexadecimal digits each.
+fn room_for_octets(octets: &[u8]) -> usize
+    ensures { result ≡ length (hex_text octets.now) }
+{
+    2 * octets.len()
+}
+
+/// Room for the digits of a prefix.
+#[inline(never)]
+fn room_for_prefix(prefix: &Prefix) -> usize
+    ensures { result ≡ length (prefix_text prefix.now) }
+{
+    prefix.text().len()
+}
+
+/// Lays a line at the front of a place, and tells its length.
+#[inline(always)]
+fn lay_line(first: &Word<'_>, others: &[Word<'_>], place: &mut [u8]) -> usize
+    requires { length (line_of (word_text first.now) (map word_text others.now)) ≤ length place.old }
+    ensures laid { take result place.new ≡ line_of (word_text first.now) (map word_text others.now) }
+    ensures end { result ≡ length (line_of (word_text first.now) (map word_text others.now)) }
+{
+    let at = lay_word(first, 0, place);
+    let at = lay_words(others, at, place);
+    lay_octet(b'\n', at, place)
+}
+
+/// Lays words from an index on, each behind a space, and tells where they end.
+#[inline(always)]
+fn lay_words(words: &[Word<'_>], at: usize, place: &mut [u8]) -> usize
+    requires { at + length (flat_map behind_space (map word_text words.now)) ≤ length place.old }
+    ensures { Lays at (flat_map behind_space (map word_text words.now)) place.old result place.new }
+{
+    let mut end = at;
+    for word in words {
+        end = lay_octet(b' ', end, place);
+        end = lay_word(word, end, place);
+    }
+    end
+}
+
+/// Lays a word from an index on, and tells where it ends.
+#[inline(always)]
+fn lay_word(word: &Word<'_>, at: usize, place: &mut [u8]) -> usize
+    requires { at + length (word_text word.now) ≤ length place.old }
+    ensures { Lays at (word_text word.now) place.old result place.new }
+{
+    match *word {
+        Word::Text(text) => lay(text, at, place),
+        Word::Number(number) => lay_decimal(number, at, place),
+        Word::KeyedNumber(key, number) => lay_number(key, number, at, place),
+        Word::Octet(octet) => lay_hex(&[octet], at, place),
+        Word::Identifier(identifier) => lay_hex(&identifier.to_be_bytes(), at, place),
+        Word::Octets(octets) => lay_hex(octets, at, place),
+        Word::KeyedOctets(key, octets) => {
+            let at = lay(key, at, place);
+            lay_hex(octets, at, place)
+        }
+        Word::Address(address) => lay_hex(address.as_bytes(), at, place),
+        Word::Prefix(prefix) => lay_prefix(prefix, at, place),
+        Word::Pattern(len, start) => {
+            let at = lay_number(b"pat:", u64::from(len), at, place);
+            lay_number(b":", u64::from(start), at, place)
+        }
+    }
+}
+
+/// Lays the digits of a prefix.
+#[inline(never)]
+fn lay_prefix(prefix: &Prefix, at: usize, place: &mut [u8]) -> usize
+    requires { at + length (prefix_text prefix.now) ≤ length place.old }
+    ensures { Lays at (prefix_text prefix.now) place.old result place.new }
+{
+    lay(prefix.text().as_bytes(), at, place)
+}
+
+/// Lays a label and a number in decimal digits.
+#[inline(never)]
+fn lay_number(label: &[u8], number: u64, at: usize, place: &mut [u8]) -> usize
+    requires { at + length (label.now ++ decimal number) ≤ length place.old }
+    ensures { Lays at (label.now ++ decimal number) place.old result place.new }
+{
+    let at = lay(label, at, place);
+    lay_decimal(number, at, place)
+}
+
+/// Lays a number in decimal digits.
+#[inline(never)]
+fn lay_decimal(number: u64, at: usize, place: &mut [u8]) -> usize
+    requires { at + length (decimal number) ≤ length place.old }
+    ensures { Lays at (decimal number) place.old result place.new }
+{
+    let mut buffer = Buffer::new();
+    lay(buffer.format(number).as_bytes(), at, place)
+}
+
+/// Lays octets in two hexadecimal digits each.
+#[inline(never)]
+fn lay_hex(octets: &[u8], at: usize, place: &mut [u8]) -> usize
+    requires { at + length (hex_text octets.now) ≤ length place.old }
+    ensures { Lays at (hex_text octets.now) place.old result place.new }
+{
+    let end = at + room_for_octets(octets);
+    lay_digits(octets, &mut place[at..end]);
+    end
+}
+
+/// Lays a text.
+fn lay(text: &[u8], at: usize, place: &mut [u8]) -> usize
+    requires { at + length text.now ≤ length place.old }
+    ensures { Lays at text.now place.old result place.new }
+{
+    let end = at + text.len();
+    place[at..end].copy_from_slice(text);
+    end
+}
+
+/// Lays an octet; one alone is laid faster than as a text.
+fn lay_octet(octet: u8, at: usize, place: &mut [u8]) -> usize
+    requires { at + 1 ≤ length place.old }
+    ensures { Lays at (octet ∷ []) place.old result place.new }
+{
+    place[at] = octet;
+    at + 1
 }
 
 /// The word `on`, or `off`.

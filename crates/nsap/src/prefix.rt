@@ -126,10 +126,17 @@ impl Prefix {
         ensures written { OnOk result (out.new.items ≡ out.old.items ++ prefix_text self.now) }
         ensures same { OnErr result (out.new.items ≡ out.old.items) }
     {
+        push(self.text().as_bytes(), out)
+    }
+
+    /// The digits in lower case, without dots; where there are none, `*`.
+    pub fn text(&self) -> InlineOctets<40>
+        ensures { result ≡ prefix_text self.now }
+    {
         if self.len() == 0 {
-            return push(b"*", out);
+            return InlineOctets::of(b"*");
         }
-        push(self.characters().as_bytes(), out)
+        self.characters()
     }
 
     /// The character of each digit, in lower case.

@@ -1,14 +1,21 @@
-use Rattle.std.proofs.Common.{map, take}
-use Rattle.std.specs.List.{flat_map}
+use Rattle.std.proofs.Common.{◌≡◌, ◌∙◌, List, ℕ, arith, flat_map, length, map, vec_len}
 use Rattle.clnp_plan.specs.Journal.{behind_space}
 use Rattle.clnp_plan.specs.Words.{word_text}
-use Rattle.clnp_plan.proofs.Fronts.{kept_before, on_err}
+use Rattle.clnp_plan.proofs.Laying.{before_room, filled, lies_within}
 use Rattle.clnp_plan.proofs.line.push_words.Goals as goal
 
-pub returns-in_err-push_word-clause-kept : goal.returns-in_err-push_word-clause-kept
-returns-in_err-push_word-clause-kept c =
-    on_err c.from_residual-in_err-push_word.result
-    (kept_before c.args.out.now.items (flat_map behind_space (map word_text (take c.loop-word.word-index c.args.words.now)))
-    c.loop-word.out.items c.push_word.new.out.items c.loop-word.invariant
-    (kept_before c.loop-word.out.items _ c.push_octet.new.out.items c.push_word.new.out.items
-    c.in_ok-push_octet.ensures.written c.in_err-push_word.ensures.kept))
+pub returns-clause-written : goal.returns-clause-written
+returns-clause-written c =
+    let old = c.args.out.now.items in
+    let start = c.len-start.result in
+    let given = c.deref_mut.result.now in
+    let place = c.lay_words-len.new.place in
+    let len = c.lay_words-len.result in
+    let line : List ℕ = flat_map behind_space (map word_text c.args.words.now) in
+    let at : start ≡ length old = omega arith in
+    let front = before_room old _ c.make_room.new.out.items given start at c.deref_mut.ensures.value c.in_ok-make_room.ensures.written in
+    let size : len ≡ length line = omega (arith, c.lay_words-len.ensures.0) in
+    let within = lies_within old given place line start len (vec_len c.make_room.new.out) at front c.lay_words-len.auto.place size
+    c.lay_words-len.ensures.1 c.deref_mut.ensures.len in
+    c.truncate.ensures.items
+    ∙ filled old given place line _ _ start len c.make_room.new.out.len at size c.lay_words-len.ensures.1 front within

@@ -2,7 +2,7 @@ use Rattle.std.proofs.Common.{◌*◌, ◌∙◌, ap, arith}
 use Rattle.std.specs.Simd.Lanes.{chunk}
 use Rattle.hex.specs.Hex.{encode_with, lower_digits}
 use Rattle.clnp_plan.proofs.DigitSteps.{all_written, block_step}
-use Rattle.clnp_plan.proofs.digits.lay_digits.Goals as goal
+use Rattle.clnp_plan.proofs.digits.lay_blocks.Goals as goal
 
 pub loop-block-preserved : goal.loop-block-preserved
 loop-block-preserved c =

@@ -1,8 +1,0 @@
-use Rattle.std.proofs.Common.{◌≡◌, ◌++◌, map, take}
-use Rattle.std.specs.List.{flat_map}
-use Rattle.clnp_plan.specs.Journal.{behind_space}
-use Rattle.clnp_plan.specs.Words.{word_text}
-use Rattle.clnp_plan.proofs.line.push_words.Given as goal
-
-abbrev pub invariant-loop-word : goal.invariant-loop-word
-invariant-loop-word l = l.out.items ≡ l.fn.out.items ++ flat_map behind_space (map word_text (take l.word-index l.words))
