@@ -19,7 +19,7 @@ CALLS = [("clnp_program", "src/call.rt", "run"), ("clnp_commands", "src/top.rt",
 # the program's texts about itself
 OF_OTHERS = [
     "capture_commands", "pcap_commands", "fair_commands", "live_commands", "link_board", "link_words", "scenario_advice",
-    "clnp_commands/specs/Storm.antt", "clnp_commands/src/storm.rt", "clnp_commands/specs/Live.antt",
+    "network_commands/specs/Storm.antt", "network_commands/src/storm.rt", "clnp_commands/specs/Live.antt",
     "clnp_commands/specs/Advised.antt", "clnp_commands/specs/Agree.antt", "command_base/specs/ByLine.antt",
     "command_base/specs/Output.antt", "clnp_program/specs/Texts.antt", "scenario/specs/Canonical.antt",
     "scenario/specs/Migration.antt", "scenario/specs/Seeds.antt",

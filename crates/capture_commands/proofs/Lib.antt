@@ -1,4 +1,3 @@
-pub use Rattle.command_base.proofs as CommandBase
 pub mod Outputs
 pub mod Totals
 pub mod Vectors

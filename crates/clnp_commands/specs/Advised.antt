@@ -1,6 +1,6 @@
 -- What the author of a refused input is told.
 use Rattle.std.specs.Prelude.{◌≡◌, ℕ, ◌&&◌, Bool, true, false, List, [], Result, Ok, Err}
-use Rattle.scenario_advice.specs.Said.{IsTold}
+use Rattle.live_commands.specs.ScenarioAdvice.Said.{IsTold}
 use Rattle.capture_commands.specs.CommandBase.declared.status.Status.{Status}
 use Rattle.capture_commands.specs.CommandBase.declared.status.Status.TheVariants.{BadInput}
 use Rattle.clnp_commands.specs.declared.command.Command.{Command}

@@ -1,10 +1,10 @@
 -- What commands make of one another's output, and what a share is worth.
 use Rattle.std.specs.Prelude.{◌≡◌, ℕ, ◌≤◌, List, length, map, IfOk}
 use Rattle.hex.specs.Hex.{IsBytes}
-use Rattle.clnp_machine.specs.ClnpBase.Text.{lines_of}
+use Rattle.network_commands.specs.ClnpBase.Text.{lines_of}
 use Rattle.capture_commands.specs.CommandBase.declared.status.Status.TheVariants.{Done}
-use Rattle.clnp_world.specs.Scenario.Grammar.{plan_of_version_1}
-use Rattle.clnp_world.specs.ClnpNetwork.Migrated.{IsMigrated}
+use Rattle.network_commands.specs.Scenario.Grammar.{plan_of_version_1}
+use Rattle.network_commands.specs.ClnpNetwork.Migrated.{IsMigrated}
 use Rattle.capture_commands.specs.RoundTrip.{EndsPlainly, IsAcceptedCapture, PacksTo, ShowsAs, without_skipped}
 use Rattle.pcap_commands.specs.PcapFrames.File.{Captured}
 use Rattle.pcap_commands.specs.PcapFrames.Making.{frames_in, made_record}

@@ -1,12 +1,6 @@
-pub use Rattle.clnp_machine.specs.ClnpBase
+pub use Rattle.network_commands.specs.ClnpBase
 pub use Rattle.capture_commands.specs.CommandBase
 pub use Rattle.live_commands.specs.LinkBoard
-pub mod Sim
-pub mod Time
-pub mod Play
-pub mod Storm
-pub mod Counting
-pub mod Playing
 pub mod Words
 pub mod Tasks
 pub mod Serves

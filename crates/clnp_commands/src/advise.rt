@@ -4,8 +4,10 @@ ghost use Rattle.clnp_commands.specs.Advised.{Advised};
 ghost use Rattle.clnp_commands.specs.declared.command.Command.TheVariants.{Whole};
 
 use crate::command::WholeCommand;
-use command_base::Status;
-use scenario_advice::{Advice, of_capture, of_scenario, of_scenario_of_version_1, of_vectors};
+use live_commands::advising::{
+    Advice, of_capture, of_scenario, of_scenario_of_version_1, of_vectors,
+};
+use network_commands::Status;
 
 /// What the author of an input is told that a command refuses at one of its lines: which word is at fault and what is wanted
 /// there, or what the line is about. Nothing with every other answer, and by the commands that tell nothing.

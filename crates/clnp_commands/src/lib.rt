@@ -6,27 +6,22 @@
 
 mod advise;
 mod command;
-mod migrate;
-mod play;
-mod sim;
-mod storm;
 mod top;
 
-pub use clnp_world::scenarios;
 pub use command::{Command, StreamedCommand, WholeCommand, link_places};
-pub use command_base::{Status, code};
 pub use live_commands::Ports;
-pub use scenario_advice::Advice;
+pub use live_commands::advising::Advice;
+pub use network_commands::{Status, code, scenarios};
 pub use top::clnp_main;
 
 /// Octets, their sources and sinks, and clocks.
 pub mod base {
-    pub use command_base::base::{
+    pub use network_commands::base::{
         Clock, Failed, HalfSeconds, NoMemory, Sink, Source, StdSink, StdSource, write_all,
     };
 }
 
 /// A network of systems, move by move.
 pub mod worlds {
-    pub use clnp_world::{Counts, Move, World};
+    pub use network_commands::worlds::{Counts, Move, World};
 }

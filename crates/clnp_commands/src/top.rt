@@ -1,11 +1,11 @@
 //! The top call: words and input in, output and a status out.
 ghost use Rattle.std.specs.Prelude.{◌≡◌, ◌≢◌, ◌≤◌, ℕ, false, List, [], length, map, IfOk, OnOk, Ok, Err, string_bytes};
-ghost use Rattle.clnp_machine.specs.ClnpBase.Streams.{Rose};
-ghost use Rattle.clnp_world.specs.Scenario.Grammar.{plan_of};
-ghost use Rattle.clnp_world.specs.Scenario.Canonical.{text_of};
-ghost use Rattle.clnp_world.specs.Scenario.Scenario.{IsClosed};
-ghost use Rattle.clnp_world.specs.Scenario.Seeds as seeds;
-ghost use Rattle.clnp_safety.specs.Runs.{RunsAreSafe};
+ghost use Rattle.network_commands.specs.ClnpBase.Streams.{Rose};
+ghost use Rattle.network_commands.specs.Scenario.Grammar.{plan_of};
+ghost use Rattle.network_commands.specs.Scenario.Canonical.{text_of};
+ghost use Rattle.network_commands.specs.Scenario.Scenario.{IsClosed};
+ghost use Rattle.network_commands.specs.Scenario.Seeds as seeds;
+ghost use Rattle.network_commands.specs.ClnpSafety.Runs.{RunsAreSafe};
 ghost use Rattle.clnp_commands.specs.Words.{command_of, reads, Reads};
 ghost use Rattle.clnp_commands.specs.Advised.{Advised};
 ghost use Rattle.clnp_commands.specs.declared.command.Command.TheVariants.{Whole};
@@ -19,21 +19,20 @@ ghost use Rattle.capture_commands.specs.CommandBase.ComesAs.{ComesAs, most_input
 
 use crate::advise::advice_on;
 use crate::command::{Command, StreamedCommand, WholeCommand};
-use crate::migrate::migrate;
-use crate::sim::sim;
-use crate::storm::storm;
 use capture_commands::check::check;
 use capture_commands::pack::pack;
 use capture_commands::show::show;
-use clnp_machine::system_plan::Telling;
-use clnp_safety::laws::runs_are_safe;
-use clnp_world::scenarios::laws;
-use command_base::Status;
-use command_base::base::{Clock, ReadStop, Sink, Source, read_all};
 use fair_commands::reassemble;
+use live_commands::advising::Advice;
 use live_commands::{Ports, run_system};
+use network_commands::base::{Clock, ReadStop, Sink, Source, read_all};
+use network_commands::migrate::migrate;
+use network_commands::safety::{runs_are_safe, texts_of_version_1_migrate};
+use network_commands::scenarios::laws;
+use network_commands::sim::sim;
+use network_commands::storm::storm;
+use network_commands::{Status, Telling};
 use pcap_commands::{pcap_lines, pcap_make, pcap_show};
-use scenario_advice::Advice;
 use std::alloc::Global;
 
 /// The most octets of an input.
@@ -161,7 +160,7 @@ fn texts_agree()
     pcap_commands::laws::lines_make_the_frames_again();
     pcap_commands::laws::a_made_file_gives_its_lines_again();
     fair_commands::shares_are_fair();
-    clnp_safety::texts_of_version_1_migrate();
+    texts_of_version_1_migrate();
 }
 
 /// Reads the input of a command that reads one.

@@ -1,0 +1,9 @@
+pub mod Playing
+pub mod Runs
+pub mod Clocks
+pub mod KindWords
+pub mod Named
+pub mod Counting
+pub mod Still
+pub mod Plays
+pub mod Storms

@@ -1,0 +1,12 @@
+pub use Rattle.clnp_machine.specs.ClnpBase
+pub use Rattle.clnp_machine.specs.ClnpPlan
+pub use Rattle.clnp_safety.specs as ClnpSafety
+pub use Rattle.clnp_world.specs.ClnpNetwork
+pub use Rattle.clnp_world.specs.Scenario
+pub mod Sim
+pub mod Time
+pub mod Play
+pub mod Storm
+pub mod Counting
+pub mod Playing
+pub mod RunTasks

@@ -1,0 +1,132 @@
+//! The command `storm`: what a run of the scenario of a seed counts.
+ghost use Rattle.std.specs.Prelude.{◌≡◌, ◌≤◌, ◌++◌, OnOk, Err};
+ghost use Rattle.clnp_machine.specs.ClnpBase.Streams.{Rose};
+ghost use Rattle.command_base.specs.ByLine.{EndOf};
+ghost use Rattle.command_base.specs.ComesAs.{ComesAs};
+ghost use Rattle.network_commands.specs.RunTasks.{storm_task};
+ghost use Rattle.network_commands.specs.Storm.{counts_text, summary_text};
+ghost use Rattle.network_commands.specs.Counting.{SumOf};
+ghost use Rattle.network_commands.specs.Playing.{Tallies};
+
+use crate::play::{Player, Stop, play_events};
+use clnp_world::scenarios::{Move, Scenario, from_seed};
+use clnp_world::{Counts, World, WorldRefusal};
+use command_base::base::{NoMemory, Sink, push, write_all};
+use command_base::{Status, push_number};
+use std::alloc::Global;
+
+/// What a run of the scenario of a seed comes to.
+#[derive(Clone, Copy, PartialEq, Eq)]
+pub(crate) struct Summary {
+    pub(crate) seed: u64,
+    pub(crate) events: u64,
+    pub(crate) copies: u64,
+    pub(crate) counts: Counts,
+    pub(crate) clock: u64,
+}
+
+impl Summary {
+    /// Appends the line of it.
+    fn push(self, out: &mut Vec<u8>) -> Result<(), NoMemory>
+        ensures { OnOk result (out.new.items ≡ out.old.items ++ summary_text self) }
+    {
+        push_number(b"storm ", self.seed, out)?;
+        push_number(b" events ", self.events, out)?;
+        push_number(b" copies ", self.copies, out)?;
+        push_counts(&self.counts, out)?;
+        push_number(b" end ", self.clock, out)?;
+        push(b"\n", out)
+    }
+}
+
+/// Appends what is counted.
+fn push_counts(counts: &Counts, out: &mut Vec<u8>) -> Result<(), NoMemory>
+    ensures { OnOk result (out.new.items ≡ out.old.items ++ counts_text counts.now) }
+{
+    push_number(b" got ", counts.got, out)?;
+    push_number(b" reports ", counts.reports, out)?;
+    push_number(b" echoed ", counts.echoed, out)?;
+    push_number(b" drops ", counts.drops, out)?;
+    push_number(b" expired ", counts.expired, out)
+}
+
+/// Runs the scenario of a seed, and writes a line of what it comes to.
+pub fn storm<K: Sink>(alloc: Global, seed: u64, sink: &mut K) -> Status
+    ensures later { K.faults sink.old ≤ K.faults sink.new }
+    ensures comes_to { ComesAs (storm_task seed) (K.written sink.old) (K.written sink.new) result }
+    ensures failed { result ≡ Status.WriteFault → Rose (K.faults sink.old) (K.faults sink.new) }
+{
+    let Ok(scenario) = from_seed(alloc, seed) else {
+        return Status::NoMemory;
+    };
+    match sum_up(alloc, seed, &scenario, sink) {
+        Ok(summary) => write_line(alloc, summary, sink),
+        Err(Stop::WorldFull { octets }) => Status::WorldFull { octets },
+        Err(Stop::WriteFault) => Status::WriteFault,
+        Err(Stop::NoMemory) => Status::NoMemory,
+    }
+}
+
+/// Writes the line of a run.
+fn write_line<K: Sink>(alloc: Global, summary: Summary, sink: &mut K) -> Status
+    ensures later { K.faults sink.old ≤ K.faults sink.new }
+    ensures written { EndOf (summary_text summary) (K.written sink.old) (K.written sink.new) result }
+    ensures failed { result ≡ Status.WriteFault → Rose (K.faults sink.old) (K.faults sink.new) }
+{
+    let mut line = Vec::new(alloc);
+    if summary.push(&mut line).is_err() {
+        return Status::NoMemory;
+    }
+    match write_all(sink, line.as_slice()) {
+        Ok(()) => Status::Done,
+        Err(_) => Status::WriteFault,
+    }
+}
+
+/// Runs the scenario of a seed, and sums up what it comes to. Nothing is written.
+fn sum_up<K: Sink>(
+    alloc: Global,
+    seed: u64,
+    scenario: &Scenario,
+    sink: &mut K,
+) -> Result<Summary, Stop>
+    ensures later { K.faults sink.old ≤ K.faults sink.new }
+    ensures sums { SumOf seed scenario.now result }
+    ensures same { K.written sink.new ≡ K.written sink.old }
+    ensures failed { result ≡ Err Stop.WriteFault → Rose (K.faults sink.old) (K.faults sink.new) }
+{
+    // Its clause: the ticks of a scenario are few, so that a clock has room for them.
+    scenario.is_fit();
+    let Ok(mut world) = World::new(alloc, scenario) else {
+        return Err(Stop::NoMemory);
+    };
+    let mut counts = Counts::none();
+    play_events(alloc, scenario, &mut world, &mut counts, sink)?;
+    Ok(Summary {
+        seed,
+        events: scenario.events().len() as u64,
+        copies: world.copies(),
+        counts,
+        clock: world.clock(),
+    })
+}
+
+/// The lines of moves are counted by their kinds.
+impl Player for Counts {
+    ghost played = { λ counts. Tallies counts };
+
+    fn play_move<K: Sink>(
+        &mut self,
+        alloc: Global,
+        scenario: &Scenario,
+        mv: &Move,
+        world: &mut World,
+        _sink: &mut K,
+    ) -> Result<(), Stop> {
+        match world.count_step(alloc, scenario, mv, self) {
+            Ok(()) => Ok(()),
+            Err(WorldRefusal::WorldFull { octets }) => Err(Stop::WorldFull { octets }),
+            Err(WorldRefusal::NoMemory) => Err(Stop::NoMemory),
+        }
+    }
+}
