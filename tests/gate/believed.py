@@ -14,13 +14,13 @@ import sys
 
 ROOT = os.path.abspath(os.path.join(os.path.dirname(__file__), "..", ".."))
 # the calls whose contracts are what is promised, and the file that each is in
-CALLS = [("clnp_program", "src/call.rt", "run"), ("clnp_commands", "src/top.rt", "clnp_main")]
+CALLS = [("clnp_program", "src/call.rt", "run"), ("clnp_program", "src/top.rt", "clnp_main")]
 # what the headline doesn't speak of: crates and files of other commands than `sim`, of what is said of refused texts, and of
 # the program's texts about itself
 OF_OTHERS = [
     "capture_commands", "pcap_commands", "fair_commands", "live_commands", "link_board", "link_words", "scenario_advice",
-    "network_commands/specs/Storm.antt", "network_commands/src/storm.rt", "clnp_commands/specs/Live.antt",
-    "clnp_commands/specs/Advised.antt", "clnp_commands/specs/Agree.antt", "command_base/specs/ByLine.antt",
+    "network_commands/specs/Storm.antt", "network_commands/src/storm.rt", "clnp_program/specs/Live.antt",
+    "clnp_program/specs/Advised.antt", "clnp_program/specs/Agree.antt", "command_base/specs/ByLine.antt",
     "command_base/specs/Output.antt", "clnp_program/specs/Texts.antt", "scenario/specs/Canonical.antt",
     "scenario/specs/Migration.antt", "scenario/specs/Seeds.antt",
 ]

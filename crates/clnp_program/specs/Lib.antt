@@ -1,3 +1,9 @@
+pub mod Words
+pub mod Tasks
+pub mod Serves
+pub mod Live
+pub mod Advised
+pub mod Agree
 pub mod Texts
 pub mod Answers
 pub mod Faults

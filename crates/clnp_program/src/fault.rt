@@ -1,17 +1,18 @@
 //! How a call of the program ends: what is said on standard error, and the exit number.
 ghost use Rattle.std.specs.Prelude.{◌≡◌, ◌≤◌, ◌++◌, codes, OnOk, OnErr};
 ghost use Rattle.std.specs.Io.KnownBytes.{Appends};
-ghost use Rattle.clnp_commands.specs.ClnpBase.Streams.{Rose};
-ghost use Rattle.clnp_commands.specs.CommandBase.Codes.{magic_code};
+ghost use Rattle.network_commands.specs.ClnpBase.Streams.{Rose};
+ghost use Rattle.capture_commands.specs.CommandBase.Codes.{magic_code};
 ghost use Rattle.clnp_program.specs.Answers.{Tells, TellsFault, WritesLine, line_of_advice};
 ghost use Rattle.clnp_program.specs.Faults.{fault_of};
 ghost use Rattle.clnp_program.specs.Texts.{behind_code, behind_fault, wanted};
 
 use arrayvec::ArrayString;
-use clnp_commands::base::{Failed, Sink, write_all};
-use clnp_commands::code::{CUT_FILE, LINK_TYPE, MAGIC, NOT_PACKABLE, RECORD_LENGTH, VERSION};
-use clnp_commands::scenarios::Code;
-use clnp_commands::{Advice, Status};
+use live_commands::advising::Advice;
+use network_commands::Status;
+use network_commands::base::{Failed, Sink, write_all};
+use network_commands::code::{CUT_FILE, LINK_TYPE, MAGIC, NOT_PACKABLE, RECORD_LENGTH, VERSION};
+use network_commands::scenarios::Code;
 use std::fmt::Write;
 use thiserror::Error;
 

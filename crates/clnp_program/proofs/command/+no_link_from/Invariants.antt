@@ -1,5 +1,5 @@
 use Rattle.std.proofs.Common.{length}
-use Rattle.clnp_commands.proofs.command.+no_link_from.Given as goal
+use Rattle.clnp_program.proofs.command.+no_link_from.Given as goal
 
 abbrev pub decreases-no_link_from : goal.decreases-no_link_from
 decreases-no_link_from l = length l.words.now

@@ -1,7 +1,7 @@
 //! What the author of a refused input is told.
 ghost use Rattle.std.specs.Prelude.{Ok};
-ghost use Rattle.clnp_commands.specs.Advised.{Advised};
-ghost use Rattle.clnp_commands.specs.declared.command.Command.TheVariants.{Whole};
+ghost use Rattle.clnp_program.specs.Advised.{Advised};
+ghost use Rattle.clnp_program.specs.declared.command.Command.TheVariants.{Whole};
 
 use crate::command::WholeCommand;
 use live_commands::advising::{

@@ -7,14 +7,14 @@ use Rattle.capture_commands.specs.CommandBase.Reading.{Excuses, TakesTooMany, Ta
 use Rattle.pcap_commands.specs.declared.form.Form.{Form}
 use Rattle.pcap_commands.specs.declared.form.Form.TheVariants.{Shown, Remade}
 use Rattle.pcap_commands.specs.Serves.{ServesFile}
-use Rattle.clnp_commands.specs.declared.command.Command.{Command}
-use Rattle.clnp_commands.specs.declared.command.Command.TheVariants.{Whole, Streamed, Run}
-use Rattle.clnp_commands.specs.declared.command.WholeCommand.{WholeCommand}
-use Rattle.clnp_commands.specs.declared.command.WholeCommand.TheVariants.{Storm}
-use Rattle.clnp_commands.specs.declared.command.StreamedCommand.{StreamedCommand}
-use Rattle.clnp_commands.specs.declared.command.StreamedCommand.TheVariants.{PcapShow, PcapLines}
-use Rattle.clnp_commands.specs.Tasks.{CalledBy, task}
-use Rattle.clnp_commands.specs.Words.{command_of, Reads}
+use Rattle.clnp_program.specs.declared.command.Command.{Command}
+use Rattle.clnp_program.specs.declared.command.Command.TheVariants.{Whole, Streamed, Run}
+use Rattle.clnp_program.specs.declared.command.WholeCommand.{WholeCommand}
+use Rattle.clnp_program.specs.declared.command.WholeCommand.TheVariants.{Storm}
+use Rattle.clnp_program.specs.declared.command.StreamedCommand.{StreamedCommand}
+use Rattle.clnp_program.specs.declared.command.StreamedCommand.TheVariants.{PcapShow, PcapLines}
+use Rattle.clnp_program.specs.Tasks.{CalledBy, task}
+use Rattle.clnp_program.specs.Words.{command_of, Reads}
 
 -- All of a command's input was read: this is the status that both call for, and the output that they call for was written.
 pub record Outputs (command : WholeCommand) (left_before left_after before after : Option (List ℕ)) (status : Status) : Type 0 where

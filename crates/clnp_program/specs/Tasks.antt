@@ -12,9 +12,9 @@ use Rattle.capture_commands.specs.Check.{checking, first_checked}
 use Rattle.capture_commands.specs.Pack.{packing}
 use Rattle.pcap_commands.specs.Make.{make_task}
 use Rattle.fair_commands.specs.Reassemble.{reassemble_task}
-use Rattle.clnp_commands.specs.declared.command.WholeCommand.{WholeCommand}
-use Rattle.clnp_commands.specs.declared.command.WholeCommand.TheVariants.{Sim, Trace, Show, Check, Pack, PcapMake, Reassemble, Migrate, Storm}
-use Rattle.clnp_commands.specs.Words.{reads}
+use Rattle.clnp_program.specs.declared.command.WholeCommand.{WholeCommand}
+use Rattle.clnp_program.specs.declared.command.WholeCommand.TheVariants.{Sim, Trace, Show, Check, Pack, PcapMake, Reassemble, Migrate, Storm}
+use Rattle.clnp_program.specs.Words.{reads}
 
 -- What a command and an input that isn't too long call for: the journal of a scenario, or its trace; the lines that show the frames of a
 -- capture, the verdicts on vectors and their counts, the frames that shown lines pack to, or the Ethernet capture that is made

@@ -1,6 +1,6 @@
 //! The commands of the program.
 ghost use Rattle.std.specs.Prelude.{◌≡◌, ◌≤◌, IfSome, length, map, string_bytes};
-ghost use Rattle.clnp_commands.specs.Words.{ArePlaces, alone, command_named, command_of, no_link_from, reads, run_of, run_over, storm_of, turns_of};
+ghost use Rattle.clnp_program.specs.Words.{ArePlaces, alone, command_named, command_of, no_link_from, reads, run_of, run_over, storm_of, turns_of};
 
 use link_words::is_link_word;
 use network_commands::base::decimal;

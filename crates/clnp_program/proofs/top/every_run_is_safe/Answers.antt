@@ -1,6 +1,6 @@
 use Rattle.network_commands.specs.ClnpSafety.Runs.{RunsAreSafe}
-use Rattle.clnp_commands.proofs.Fit.{of_fit}
-use Rattle.clnp_commands.proofs.top.every_run_is_safe.Goals as goal
+use Rattle.clnp_program.proofs.Fit.{of_fit}
+use Rattle.clnp_program.proofs.top.every_run_is_safe.Goals as goal
 
 pub returns-clause-safe : goal.returns-clause-safe
 returns-clause-safe c = of_fit RunsAreSafe c.accepted_is_fit.ensures c.runs_are_safe.ensures

@@ -3,8 +3,8 @@ use Rattle.std.specs.Prelude.{ℕ, List, Option, Result, Ok, Err}
 use Rattle.capture_commands.specs.CommandBase.declared.status.Status.{Status}
 use Rattle.live_commands.specs.LinkBoard.Ports.{PortState}
 use Rattle.live_commands.specs.Serves.{ServesRun}
-use Rattle.clnp_commands.specs.declared.command.Command.{Command}
-use Rattle.clnp_commands.specs.declared.command.Command.TheVariants.{Whole, Streamed, Run}
+use Rattle.clnp_program.specs.declared.command.Command.{Command}
+use Rattle.clnp_program.specs.declared.command.Command.TheVariants.{Whole, Streamed, Run}
 
 -- What a call comes to whose words run a node; every other one leaves the board and the clock as they are.
 abbrev pub RunsAs : Result Command ℕ → (left_before left_after before after : Option (List ℕ))

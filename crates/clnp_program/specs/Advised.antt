@@ -3,10 +3,10 @@ use Rattle.std.specs.Prelude.{◌≡◌, ℕ, ◌&&◌, Bool, true, false, List,
 use Rattle.live_commands.specs.ScenarioAdvice.Said.{IsTold}
 use Rattle.capture_commands.specs.CommandBase.declared.status.Status.{Status}
 use Rattle.capture_commands.specs.CommandBase.declared.status.Status.TheVariants.{BadInput}
-use Rattle.clnp_commands.specs.declared.command.Command.{Command}
-use Rattle.clnp_commands.specs.declared.command.Command.TheVariants.{Whole, Streamed, Run}
-use Rattle.clnp_commands.specs.declared.command.WholeCommand.{WholeCommand}
-use Rattle.clnp_commands.specs.declared.command.WholeCommand.TheVariants.{Sim, Trace, Show, Check, Migrate}
+use Rattle.clnp_program.specs.declared.command.Command.{Command}
+use Rattle.clnp_program.specs.declared.command.Command.TheVariants.{Whole, Streamed, Run}
+use Rattle.clnp_program.specs.declared.command.WholeCommand.{WholeCommand}
+use Rattle.clnp_program.specs.declared.command.WholeCommand.TheVariants.{Sim, Trace, Show, Check, Migrate}
 
 -- whether an answer is that the input is bad
 abbrev pub is_bad_input : Status → Bool

@@ -1,9 +1,0 @@
-pub use Rattle.network_commands.specs.ClnpBase
-pub use Rattle.capture_commands.specs.CommandBase
-pub use Rattle.live_commands.specs.LinkBoard
-pub mod Words
-pub mod Tasks
-pub mod Serves
-pub mod Live
-pub mod Advised
-pub mod Agree
