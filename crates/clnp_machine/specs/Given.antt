@@ -1,8 +1,7 @@
 -- The outputs of a system of the code, and those of the model.
-use Rattle.std.specs.Prelude.{◌≡◌, ◌⊎◌, ℕ, true, false, List, [], ◌++◌, Option, None, Some}
+use Rattle.std.specs.Prelude.{◌≡◌, ◌⊎◌, ℕ, true, false, List, ◌++◌, Option, None, Some}
 use Rattle.std.specs.List.{AllZip}
 use Rattle.clnp_plan.specs.Nsap.declared.target.Target.{Target}
-use Rattle.clnp_plan.specs.ClnpViews.Extent.{Extent, seen}
 use Rattle.esis_pdus.specs.Grammar as esis
 use Rattle.esis_pdus.specs.Spelling as esis_spelling
 use Rattle.esis_pdus.specs.Value.{EsisValue}
@@ -13,21 +12,12 @@ use Rattle.clnp_machine.specs.Content.{Content, Labelled, Esis, Unlabelled}
 use Rattle.clnp_machine.specs.Unit.{DataUnit, Packet, wire, IsCarriable}
 use Rattle.clnp_machine.specs.System as machine
 
--- the data behind the header, if there are any
-abbrev pub body_of : Option Extent → List ℕ
-body_of None = []
-body_of (Some body) = seen body
-
--- the octets of a frame that goes out
-abbrev pub frame_in : Sending → List ℕ
-frame_in sending = sending.head ++ body_of sending.body
-
 -- A frame goes out for a packet: its octets are those of the packet's PDU, and it is the first transmission of a unit
 -- that was made at this moment, which nobody forwarded yet.
 pub record IsSentFor (moment : ℕ) (sending : Sending) (port : ℕ) (target : Target) (packet : Packet) : Type 0 where
   pub port_is : sending.port ≡ port
   pub target_is : sending.to ≡ target
-  pub octets : frame_in sending ≡ wire packet
+  pub octets : sending.frame ≡ wire packet
   pub first : sending.forwarded ≡ false
   pub carriable : IsCarriable packet
   pub made : packet.unit.made ≡ moment
@@ -37,7 +27,7 @@ pub record IsSentFor (moment : ℕ) (sending : Sending) (port : ℕ) (target : T
 pub record IsSentForEsis (sending : Sending) (port : ℕ) (target : Target) (value : EsisValue) : Type 0 where
   pub port_is : sending.port ≡ port
   pub target_is : sending.to ≡ target
-  pub octets : frame_in sending ≡ esis_spelling.spelling value
+  pub octets : sending.frame ≡ esis_spelling.spelling value
   pub first : sending.forwarded ≡ false
   pub pdu : esis.IsPdu value
 
@@ -51,7 +41,7 @@ CarriesUnit (Unlabelled octets) u = ⊥
 pub record IsSentOnFor (came : Content) (sending : Sending) (port : ℕ) (target : Target) (packet : Packet) : Type 0 where
   pub port_is : sending.port ≡ port
   pub target_is : sending.to ≡ target
-  pub octets : frame_in sending ≡ wire packet
+  pub octets : sending.frame ≡ wire packet
   pub forwarded : sending.forwarded ≡ true
   pub carriable : IsCarriable packet
   pub unit : CarriesUnit came packet.unit

@@ -61,6 +61,7 @@ impl System {
     /// # Errors
     ///
     /// `NoMemory`: `out` is then as it was, and the system is spent, at the moment at which it was.
+    #[inline(always)]
     pub fn step(
         &mut self,
         alloc: Global,

@@ -24,7 +24,7 @@ use Rattle.clnp_machine.specs.System.{SystemState, Output, Transmits, SendsEsis,
 use Rattle.clnp_machine.specs.Ways.{IsOwnWhereFirst}
 use Rattle.clnp_network.specs.LabelledNetwork as network
 use Rattle.clnp_systems.specs.declared.system.System.{System}
-use Rattle.clnp_machine.specs.Given.{CarriesUnit, GiveAll, Gives, frame_in}
+use Rattle.clnp_machine.specs.Given.{CarriesUnit, GiveAll, Gives}
 use Rattle.clnp_world.specs.Lines.{Gains, Taken}
 use Rattle.clnp_world.specs.Seen.{frame_copy, frame_copies, frames_weight, origin_of}
 use Rattle.clnp_world.specs.Stands.{IsMadeWithUnit, StandEach}
@@ -174,12 +174,12 @@ as_old came (Unlabelled octets) u born same = absurd same
 
 -- the frame of a packet
 sends_packet : (old code : Network) (before after : Taken) (sending : Sending) (frame : List ℕ) (origin : Origin) (port : ℕ) (target : Target) (packet : Packet)
-    → frame ≡ frame_in sending
+    → frame ≡ sending.frame
     → (model : network.LabelledNetwork) (system : SystemState) → Shows old model
     → Gains before after (Transmitted system.moment system.configuration.name (length model.copies + 1) sending.port sending.to frame ∷ [])
     → PutsCopies old code (frame_copies (slice_get system.attached.ports sending.port) sending.to origin frame)
     → code ≡ record old { copies = code.copies; weight = code.weight }
-    → sending.port ≡ port → sending.to ≡ target → frame_in sending ≡ wire packet → IsCarriable packet
+    → sending.port ≡ port → sending.to ≡ target → sending.frame ≡ wire packet → IsCarriable packet
     → origin ≡ origin_of packet.unit.maker packet.unit.made
     → Puts code before after (network.put_out system model (Transmits port target packet))
 sends_packet old code before after sending frame origin port target packet frame_is model system h line put others port_is target_is spelled carriable made =
@@ -192,7 +192,7 @@ sends_packet old code before after sending frame origin port target packet frame
 
 -- the frame that a sending is stands for an output of the model
 sends : (old code : Network) (before after : Taken) (place : ℕ) (came origin : Origin) (content : Content) (sending : Sending) (frame : List ℕ) (other : Output)
-    → frame ≡ frame_in sending
+    → frame ≡ sending.frame
     → (model : network.LabelledNetwork) (system : SystemState) → Shows old model → system.place ≡ place → origin ≡ sent_origin sending came place system.moment
     → Gains before after (Transmitted system.moment system.configuration.name (length model.copies + 1) sending.port sending.to frame ∷ [])
     → PutsCopies old code (frame_copies (slice_get system.attached.ports sending.port) sending.to origin frame)
@@ -223,7 +223,7 @@ sends old code before after place came origin content sending frame (SendsEsis p
 
 -- an output that is a frame stands for one of the model
 pub puts_transmission : (old code : Network) (before after : Taken) (place : ℕ) (came origin : Origin) (sending : Sending) (frame : List ℕ) (out : output.Output)
-    → out ≡ Transmit sending → frame ≡ frame_in sending
+    → out ≡ Transmit sending → frame ≡ sending.frame
     → ((model : network.LabelledNetwork) (system : SystemState) → Shows old model → slice_get model.systems place ≡ Some system
     → origin ≡ sent_origin sending came place system.moment)
     → ((model : network.LabelledNetwork) (system : SystemState) → Shows old model → slice_get model.systems place ≡ Some system

@@ -145,6 +145,7 @@ impl Counts {
 impl LineSink for Counts {
     ghost taken = { λ counts. Counted counts };
 
+    #[inline(always)]
     fn take(&mut self, _alloc: Global, line: &Line<'_>) -> Result<(), NoMemory> {
         let Line::Noted { note, .. } = *line else {
             return Ok(());

@@ -34,12 +34,14 @@ pub(crate) struct Writing<K: Front> {
 impl<K: Front> LineSink for Writing<K> {
     ghost taken = { λ writing. Written writing.telling writing.text.items };
 
+    #[inline(always)]
     fn take(&mut self, alloc: Global, line: &Line<'_>) -> Result<(), NoMemory> {
         push_told(alloc, self.telling, line, &mut self.text)
     }
 }
 
 /// Appends what is told of a line: its text, and nothing where a trace alone has it and a journal is written.
+#[inline(always)]
 fn push_told(
     alloc: Global,
     telling: Telling,

@@ -57,7 +57,7 @@ fn advanced(frame: &[u8]) -> Option<Header> {
     if pdu.options != OPTIONS {
         return None;
     }
-    let mut header = Header::of(&pdu);
+    let mut header = Header::of(pdu.head);
     let target = header.route_target()?;
     if target.as_bytes() != b"\x47\x00\x27\xff".as_slice() {
         return None;

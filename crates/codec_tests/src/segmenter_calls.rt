@@ -27,7 +27,7 @@ fn cuts_of(mtu: u16) -> Option<Cuts>
     if pdu.body.len() != 3000 {
         return None;
     }
-    Cuts::new(Header::of(&pdu), 3000, mtu).ok()
+    Cuts::new(Header::of(pdu.head), 3000, mtu).ok()
 }
 
 /// Whether these are the pieces that are left.

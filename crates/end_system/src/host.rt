@@ -85,6 +85,7 @@ impl EndSystem {
     /// # Errors
     ///
     /// `NoMemory`: `out` is then as it was, and the host is spent, at the moment at which it was.
+    #[inline(always)]
     pub fn step(
         &mut self,
         alloc: Global,
@@ -122,6 +123,7 @@ impl EndSystem {
     /// # Errors
     ///
     /// `NoMemory`: `out` is then as it was, and the host is spent, at the moment at which it was.
+    #[inline(always)]
     pub fn tick(&mut self, alloc: Global, now: u64, out: &mut Vec<Output>) -> Result<(), NoMemory>
         requires later { self.old.entity.moment ≤ now }
         requires moment { now < 2 ^ 62 }
@@ -154,9 +156,12 @@ impl EndSystem {
         ensures refused { self.old.entity.spent ≡ true → IsErr result }
     {
         let neighbour = Neighbour { port, snpa: from };
-        match self.entity.frame(alloc, neighbour, group, frame, out)? {
-            Arrival::Done => Ok(()),
-            Arrival::Passes(passing) => self.entity.note(Note::NotMine { to: passing.to }, out),
+        match self.entity.frame(alloc, neighbour, group, frame, out) {
+            Ok(Arrival::Done) => Ok(()),
+            Ok(Arrival::Passes(passing)) => {
+                self.entity.note(Note::NotMine { to: passing.to }, out)
+            }
+            Err(refused) => Err(refused),
         }
     }
 

@@ -78,8 +78,10 @@ impl EsisEntity {
     /// # Errors
     ///
     /// `NoMemory`: `out` is then as it was; of the entity nothing is promised.
+    #[inline(always)]
     pub fn hear(
         &mut self,
+        alloc: Global,
         config: &SystemConfig,
         now: u64,
         neighbour: Neighbour,
@@ -96,7 +98,7 @@ impl EsisEntity {
         ensures none { OnErr result (out.new.items ≡ out.old.items) }
     {
         let before = out.len();
-        if let Err(refused) = self.hear_in_role(config, now, neighbour, pdu, out) {
+        if let Err(refused) = self.hear_in_role(alloc, config, now, neighbour, pdu, out) {
             out.truncate(before);
             return Err(refused);
         }
@@ -110,6 +112,7 @@ impl EsisEntity {
     /// `NoMemory`: `out` is then as it was.
     pub fn tell(
         &self,
+        alloc: Global,
         config: &SystemConfig,
         neighbour: Neighbour,
         out: &mut Vec<Output>,
@@ -124,7 +127,7 @@ impl EsisEntity {
             return Ok(());
         }
         let to = Target::System(neighbour.snpa);
-        send(neighbour.port, to, hello(config, self.period), out)
+        send(alloc, neighbour.port, to, &hello(config, self.period), out)
     }
 
     /// A moment has come: what has ended since the last one is forgotten, and the hello that is due is said (sections
@@ -135,6 +138,7 @@ impl EsisEntity {
     /// `NoMemory`: `out` is then as it was; of the entity nothing is promised.
     pub fn tick(
         &mut self,
+        alloc: Global,
         config: &SystemConfig,
         ports: u8,
         now: u64,
@@ -150,7 +154,7 @@ impl EsisEntity {
         ensures none { OnErr result (out.new.items ≡ out.old.items) }
     {
         let before = out.len();
-        if let Err(refused) = self.forget_and_say(config, ports, now, out) {
+        if let Err(refused) = self.forget_and_say(alloc, config, ports, now, out) {
             out.truncate(before);
             return Err(refused);
         }

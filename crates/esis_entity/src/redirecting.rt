@@ -12,6 +12,7 @@ use clnp_machine::esis::rd;
 use clnp_machine::hearing::Neighbour;
 use clnp_machine::nsaps::{Address, Snpa, Target};
 use clnp_machine::system_plan::{Output, SystemConfig};
+use std::alloc::Global;
 
 /// A system tells another, at a place of its own, of the better way to an address: the next system's address on that subnetwork,
 /// and its title where it isn't the system of the address itself. The redirect holds for as long as the system's configuration
@@ -21,6 +22,7 @@ use clnp_machine::system_plan::{Output, SystemConfig};
 ///
 /// `NoMemory`: `out` is then as it was.
 pub fn send_redirect(
+    alloc: Global,
     config: &SystemConfig,
     neighbour: Neighbour,
     to: &Address,
@@ -35,5 +37,11 @@ pub fn send_redirect(
 {
     let settings = config.settings();
     let pdu = rd(settings.rhold, to, via, title, settings.sealed);
-    send(neighbour.port, Target::System(neighbour.snpa), pdu, out)
+    send(
+        alloc,
+        neighbour.port,
+        Target::System(neighbour.snpa),
+        &pdu,
+        out,
+    )
 }

@@ -47,6 +47,7 @@ struct Parts<'a> {
 ///
 /// `NotEsis` exactly where the frame is empty or its first octet isn't 0x82; else `Broken` exactly
 /// where it breaks one of the rules E1 to E12 (see `docs/FORMATS.md`), by the least of them.
+#[inline(always)]
 pub fn decode(frame: &[u8]) -> Result<EsisPdu<'_>, EsisRefusal>
     ensures judged { MatchResult result (λ _. why_refused frame.now ≡ None) (λ refused. why_refused frame.now ≡ Some refused) }
     ensures found { IfOk result (λ pdu. BeginsWith frame.now (pdu_value pdu) pdu.rest.now) }
@@ -70,6 +71,7 @@ fn is_esis(frame: &[u8]) -> bool
 }
 
 /// The PDU at the front of a frame that begins with 0x82. Refuses by E1 to E12.
+#[inline(always)]
 #[tactic(auto, unfolding(crate::specs::Rules::refusal, crate::specs::Rules::header_refusal))]
 fn read(frame: &[u8]) -> Result<EsisPdu<'_>, EsisRefusal>
     ensures judged { Gives result (refusal frame.now) }
@@ -203,8 +205,7 @@ fn read_title(part: &[u8]) -> Option<Parts<'_>>
     ensures body { IfSome result (λ parts. parts.body ≡ EsisBody.Ish (field_octets part.now)) }
     ensures options { IfSome result (λ parts. parts.options.now ≡ behind part.now) }
 {
-    let (octets, options) = field(part)?;
-    let Ok(title) = Address::from_bytes(octets) else {
+    let Some((title, options)) = address_field(part) else {
         return None;
     };
     Some(Parts {
@@ -219,15 +220,13 @@ fn read_redirection(part: &[u8]) -> Option<Parts<'_>>
     ensures body { IfSome result (λ parts. parts.body ≡ redirection part.now) }
     ensures options { IfSome result (λ parts. parts.options.now ≡ behind (behind (behind part.now))) }
 {
-    let (to, others) = field(part)?;
-    let (via, others) = field(others)?;
+    let Some((to, others)) = address_field(part) else {
+        return None;
+    };
+    let Some((via, others)) = snpa_field(others) else {
+        return None;
+    };
     let (title, options) = field(others)?;
-    let Ok(to) = Address::from_bytes(to) else {
-        return None;
-    };
-    let Ok(via) = Snpa::from_bytes(via) else {
-        return None;
-    };
     Some(Parts {
         body: EsisBody::Rd {
             to,
@@ -236,6 +235,32 @@ fn read_redirection(part: &[u8]) -> Option<Parts<'_>>
         },
         options,
     })
+}
+
+/// The address in the field at the front, and what follows it, where it lies whole in the part and has 1 to 20 octets.
+fn address_field(part: &[u8]) -> Option<(Address, &[u8])>
+    ensures judged { MatchOption result (is_field 1 part.now ≡ false) (λ _. is_field 1 part.now ≡ true) }
+    ensures octets { IfSome result (λ r. r.0 ≡ field_octets part.now) }
+    ensures behind { IfSome result (λ r. r.1.now ≡ behind part.now) }
+{
+    let (octets, others) = field(part)?;
+    match Address::from_bytes(octets) {
+        Ok(address) => Some((address, others)),
+        Err(_) => None,
+    }
+}
+
+/// The same of an address on a subnetwork.
+fn snpa_field(part: &[u8]) -> Option<(Snpa, &[u8])>
+    ensures judged { MatchOption result (is_field 1 part.now ≡ false) (λ _. is_field 1 part.now ≡ true) }
+    ensures octets { IfSome result (λ r. r.0 ≡ field_octets part.now) }
+    ensures behind { IfSome result (λ r. r.1.now ≡ behind part.now) }
+{
+    let (octets, others) = field(part)?;
+    match Snpa::from_bytes(octets) {
+        Ok(snpa) => Some((snpa, others)),
+        Err(_) => None,
+    }
 }
 
 /// The timer that a header of this kind with these options suggests, in seconds. Refuses by E11 and E12.

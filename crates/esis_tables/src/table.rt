@@ -221,8 +221,8 @@ impl Table {
         self.soonest = self.soonest.min(entry.until);
         self.walk = self.walk.up_to(at);
         self.last = entry.number;
-        self.hints.note(hint, at);
-        self.slots.put(at, entry);
+        let slot = self.slots.put(at, entry);
+        self.hints.note(hint, at, slot);
     }
 
     /// Puts an entry in the place of another, with a number above those of all others.
@@ -235,8 +235,8 @@ impl Table {
         self.soonest = self.soonest.min(entry.until);
         self.walk = self.walk.up_to(at);
         self.last = entry.number;
-        self.hints.note(hint, at);
-        self.slots.set(at, entry);
+        let slot = self.slots.set(at, entry);
+        self.hints.note(hint, at, slot);
     }
 
     /// Takes the entry at a place out.
@@ -251,6 +251,7 @@ impl Table {
     }
 
     /// Takes out the entry with the least key of those whose time has ended, and gives the key.
+    #[inline(always)]
     pub(crate) fn flush(&mut self, now: u64) -> Option<Address>
         ensures flushed { (kept : List Fact) → Keeps self.old kept
             → MatchOption result (ended_keys now kept ≡ []) (λ key. ended_keys now kept ≡ key ∷ ended_keys now (without key kept)) }
@@ -345,11 +346,14 @@ impl Table {
         ensures found { IfOk result (IsAt self.now.entries key.now) }
         ensures absent { IsRising key_in self.now.entries → IfErr result (IsGap self.now.entries key.now) }
     {
-        let near = self.hints.place_at(hint);
-        if near < usize::from(self.len()) && *self.key_at(near) == *key {
-            return Ok(near);
+        let near = self.hints.at(hint);
+        let place = usize::from(near.place);
+        if let Some(there) = self.slots.key_in_slot(place, near.slot) {
+            if *there == *key {
+                return Ok(place);
+            }
         }
-        self.search(near, key)
+        self.search(place, key)
     }
 
     /// The same, by halves, at first near a place.

@@ -78,6 +78,7 @@ impl Tables {
 
     /// Takes out one key whose holding time has ended: end systems first, then intermediate systems, then redirects, by
     /// rising key. None exactly where no time has ended (ISO 9542, section 6.6).
+    #[inline(always)]
     pub fn flush(&mut self, now: u64) -> Option<Gone>
         // The first flush after time went on, and each further one at the same moment.
         ensures first { (facts : List Fact) (before : ℕ) → Stands self.old facts before [] → before ≤ now

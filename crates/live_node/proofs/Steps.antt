@@ -15,7 +15,6 @@ use Rattle.clnp_machine.specs.ClnpPlan.declared.output.Output.{Output}
 use Rattle.clnp_machine.specs.ClnpPlan.declared.output.Output.TheVariants.{Transmit, Note}
 use Rattle.clnp_machine.specs.ClnpPlan.declared.output.Sending as plan_sending
 use Rattle.clnp_machine.specs.Content.{Content}
-use Rattle.clnp_machine.specs.Given.{frame_in}
 use Rattle.clnp_machine.specs.Step.{step}
 use Rattle.clnp_machine.specs.EsisPdus.Spelling.{spelling}
 use Rattle.clnp_machine.specs.Nsap.declared.target.Target.{Target}
@@ -332,7 +331,7 @@ module _ (live : LiveNode) (board after : List PortState) (model : Node) (stands
 
 -- the frame that goes out for an output of the code
 abbrev pub sending_of : plan_sending.Sending → Sending
-sending_of sending = record { port = sending.port; frame = record { target = sending.to; octets = frame_in sending } }
+sending_of sending = record { port = sending.port; frame = record { target = sending.to; octets = sending.frame } }
 
 -- a frame that goes out is that of the model
 same_sending : (sending : plan_sending.Sending) (port : ℕ) (target : Target) (octets : List ℕ) → GoesOut sending port target octets

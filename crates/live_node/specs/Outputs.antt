@@ -4,7 +4,6 @@ use Rattle.clnp_machine.specs.ClnpPlan.declared.output.Output.{Output}
 use Rattle.clnp_machine.specs.ClnpPlan.declared.output.Output.TheVariants.{Transmit, Note}
 use Rattle.clnp_machine.specs.ClnpPlan.declared.output.Sending as plan_sending
 use Rattle.clnp_machine.specs.EsisPdus.Spelling.{spelling}
-use Rattle.clnp_machine.specs.Given.{frame_in}
 use Rattle.clnp_machine.specs.Nsap.declared.target.Target.{Target}
 use Rattle.clnp_machine.specs.System as machine
 use Rattle.clnp_machine.specs.Unit.{wire}
@@ -13,7 +12,7 @@ use Rattle.clnp_machine.specs.Unit.{wire}
 pub record GoesOut (sending : plan_sending.Sending) (port : ℕ) (target : Target) (octets : List ℕ) : Type 0 where
   pub port_is : sending.port ≡ port
   pub target_is : sending.to ≡ target
-  pub octets_are : frame_in sending ≡ octets
+  pub octets_are : sending.frame ≡ octets
 
 -- an output of the code is one of the model
 abbrev pub PutsOut : Output → machine.Output → Type 0

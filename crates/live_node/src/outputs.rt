@@ -5,12 +5,10 @@ ghost use Rattle.clnp_machine.specs.System as machine;
 ghost use Rattle.live_model.specs.Node as model;
 ghost use Rattle.live_node.specs.Outputs.{PutAllOut, PutsOut};
 ghost use Rattle.live_node.specs.Plays.{Breaks, Plays, Stands};
-ghost use Rattle.clnp_machine.specs.Given.{frame_in};
 
 use crate::lines::{write_loss, write_note, write_transmission};
 use crate::node::{LiveNode, Stop};
 use clnp_machine::system_plan::{Output, Sending};
-use clnp_systems::sent_frame;
 use link_board::base::Sink;
 use link_board::{Ports, Sent};
 use std::alloc::Global;
@@ -87,10 +85,10 @@ impl LiveNode {
         sink: &mut K,
     ) -> Result<(), Stop>
         ensures plays { OnOk result ((node : model.Node) → Stands self.old (B.ports board.old) node
-            → Plays (model.transmits node (record { port = sending.now.port; frame = record { target = sending.now.to; octets = frame_in sending.now } }))
+            → Plays (model.transmits node (record { port = sending.now.port; frame = record { target = sending.now.to; octets = sending.now.frame } }))
             node self.new (B.ports board.old) (B.ports board.new) (K.written sink.old) (K.written sink.new)) }
         ensures breaks { OnErr result ((node : model.Node) → Stands self.old (B.ports board.old) node
-            → Breaks (model.transmits node (record { port = sending.now.port; frame = record { target = sending.now.to; octets = frame_in sending.now } }))
+            → Breaks (model.transmits node (record { port = sending.now.port; frame = record { target = sending.now.to; octets = sending.now.frame } }))
             node (B.ports board.old) (B.ports board.new) (K.written sink.old) (K.written sink.new)) }
         ensures system { self.new.system ≡ self.old.system }
         ensures now { self.new.now ≡ self.old.now }
@@ -98,9 +96,6 @@ impl LiveNode {
         ensures later { K.faults sink.old ≤ K.faults sink.new }
         ensures failed { result ≡ Err Stop.WriteFault → Rose (K.faults sink.old) (K.faults sink.new) }
     {
-        let Ok(frame) = sent_frame(alloc, sending) else {
-            return Err(Stop::NoMemory);
-        };
         self.copies = self.copies.saturating_add(1);
         let name = self.system.config().name();
         write_transmission(
@@ -110,14 +105,14 @@ impl LiveNode {
             self.copies,
             sending.port,
             sending.to,
-            &frame,
+            &sending.frame,
             sink,
         )?;
         let port = usize::from(sending.port);
         if port >= board.count() || !board.is_attached(port) {
             return Ok(());
         }
-        match board.put(port, sending.to, frame.bytes(), &[]) {
+        match board.put(port, sending.to, sending.frame.bytes(), &[]) {
             Sent::Done => Ok(()),
             Sent::Detached => write_loss(
                 alloc,

@@ -25,7 +25,7 @@ use Rattle.clnp_machine.specs.ClnpOptions.Reasons.{reason_code}
 use Rattle.clnp_machine.specs.ClnpOptions.declared.reasons.Reason.TheVariants.{SegmentationNotPermitted}
 use Rattle.clnp_machine.specs.Step.{first_sent, no_way, sent_on, transmissions}
 use Rattle.clnp_machine.specs.declared.way.Hop.{Hop}
-use Rattle.clnp_machine.specs.Given.{Appends, GiveAll, IsSentFor, frame_in}
+use Rattle.clnp_machine.specs.Given.{Appends, GiveAll, IsSentFor}
 use Rattle.local_entity.specs.Sending.{piece_frame, transmission}
 use Rattle.clnp_machine.proofs.Pieces.{AreBoth, AreThese, IsThis, cut_both}
 
@@ -34,7 +34,7 @@ seen_of_part body from len within = sym (part_of_part body.frame body.from body.
 
 -- the frame of a piece has the octets of the packet that it is
 pub piece_octets : (p : Packet) (piece : Piece) (packet : Packet) (body : Extent) (forwarded : Bool) (hop : Hop) → IsThis p piece packet
-    → seen body ≡ (value_of p).body → length (seen body) ≡ body.len → frame_in (piece_frame forwarded hop body (given piece)) ≡ wire packet
+    → seen body ≡ (value_of p).body → length (seen body) ≡ body.len → (piece_frame forwarded hop body (given piece)).frame ≡ wire packet
 piece_octets p piece packet body forwarded hop this shown whole =
     let room : body.len ≡ length (value_of p).body = sym whole ∙ ap length shown in
     let within = this.within in

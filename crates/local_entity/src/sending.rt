@@ -21,8 +21,9 @@ use clnp_machine::base::NoMemory;
 use clnp_machine::options::Reason;
 use clnp_machine::segmenting::{Cut, Cuts, NotPermitted};
 use clnp_machine::system_plan::{Note, Output, PortConfig, Sending};
-use clnp_machine::views::View;
+use clnp_machine::views::{Frame, View};
 use clnp_machine::way::Hop;
+use std::alloc::Global;
 
 /// Sends a unit in pieces to where it goes next, by one of these ports, or notes that it may not be cut, or that there is no way
 /// for it.
@@ -31,6 +32,7 @@ use clnp_machine::way::Hop;
 ///
 /// `NoMemory`: `out` is then as it was.
 pub fn send_unit(
+    alloc: Global,
     made: &Made,
     hop: Option<Hop>,
     ports: &[PortConfig],
@@ -49,11 +51,17 @@ pub fn send_unit(
     let Some(port) = ports.get(usize::from(hop.port)) else {
         return note(Reason::DestinationUnknown, out);
     };
-    send_on(made, hop, port, out)
+    send_on(alloc, made, hop, port, out)
 }
 
 /// Sends a unit in pieces on a port, or notes that it may not be cut.
-fn send_on(made: &Made, hop: Hop, port: &PortConfig, out: &mut Vec<Output>) -> Result<(), NoMemory>
+fn send_on(
+    alloc: Global,
+    made: &Made,
+    hop: Hop,
+    port: &PortConfig,
+    out: &mut Vec<Output>,
+) -> Result<(), NoMemory>
     requires made { (u : DataUnit) × Does (Send made.now) (Sends u) }
     requires least { 512 ≤ port.now.mtu }
     ensures sent { OnOk result ((u : DataUnit) → Does (Send made.now) (Sends u) → u.first_position ≡ 0
@@ -63,17 +71,18 @@ fn send_on(made: &Made, hop: Hop, port: &PortConfig, out: &mut Vec<Output>) -> R
 {
     let octets = made.body.bytes().len();
     match Cuts::new(made.head, octets, port.mtu) {
-        Ok(cuts) => give_pieces(cuts, hop, &made.body, false, out),
+        Ok(cuts) => give_pieces(alloc, cuts, hop, &made.body, false, out),
         Err(NotPermitted { .. }) => note(Reason::SegmentationNotPermitted, out),
     }
 }
 
-/// Gives out the pieces of a PDU with these data, which is forwarded or was made here. No octet of the data is copied.
+/// Gives out the pieces of a PDU with these data, which is forwarded or was made here, each as a frame of its own.
 ///
 /// # Errors
 ///
 /// `NoMemory`: `out` is then as it was.
 pub fn give_pieces(
+    alloc: Global,
     cuts: Cuts,
     hop: Hop,
     body: &View,
@@ -86,7 +95,7 @@ pub fn give_pieces(
     ensures front { take (length out.old.items) out.new.items ≡ out.old.items }
 {
     let before = out.len();
-    if let Err(refused) = push_pieces(cuts, &hop, body, forwarded, out) {
+    if let Err(refused) = push_pieces(alloc, cuts, &hop, body, forwarded, out) {
         out.truncate(before);
         return Err(refused);
     }
@@ -95,6 +104,7 @@ pub fn give_pieces(
 
 /// Appends the pieces of a PDU with these data; where memory is refused some of them stay.
 fn push_pieces(
+    alloc: Global,
     cuts: Cuts,
     hop: &Hop,
     body: &View,
@@ -106,13 +116,14 @@ fn push_pieces(
     ensures front { OnErr result (take (length out.old.items) out.new.items ≡ out.old.items) }
 {
     for cut in cuts {
-        push_piece(&cut, hop, body, forwarded, out)?;
+        push_piece(alloc, &cut, hop, body, forwarded, out)?;
     }
     Ok(())
 }
 
 /// Appends a piece of a PDU with these data.
 fn push_piece(
+    alloc: Global,
     cut: &Cut,
     hop: &Hop,
     body: &View,
@@ -124,15 +135,25 @@ fn push_piece(
     ensures none { OnErr result (out.new.items ≡ out.old.items) }
 {
     let data = body.part(cut.from, cut.len)?;
+    let frame = joined(alloc, cut.head.as_bytes(), data.bytes())?;
     out.reserve(1)?;
     out.push_reserved(Output::Transmit(Sending {
         port: hop.port,
         to: hop.target,
-        head: cut.head.head(),
-        body: Some(data),
+        frame,
         forwarded,
     }));
     Ok(())
+}
+
+/// The frame of a header and the data that follow it, in room of just its length.
+fn joined(alloc: Global, head: &[u8], body: &[u8]) -> Result<Frame, NoMemory>
+    ensures { IfOk result (λ frame. frame ≡ head.now ++ body.now) }
+{
+    let mut octets = Vec::with_capacity(alloc, head.len().saturating_add(body.len()))?;
+    octets.extend_from_slice(head)?;
+    octets.extend_from_slice(body)?;
+    Frame::from_vec(octets)
 }
 
 /// Notes that a unit is discarded for a reason, for which no place in it is told.

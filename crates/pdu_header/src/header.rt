@@ -17,10 +17,9 @@ use crate::layout::{
     MORE_SEGMENTS, MOST_HEADER, MOST_TOTAL, SEGMENTATION_PART, SEGMENTATION_PERMITTED,
 };
 use crate::parts::Parts;
-use crate::pdu::{Pdu, SegPart};
+use crate::pdu::SegPart;
 use crate::write::{header_len, written};
 use byteorder::{BigEndian, ByteOrder};
-use clnp_views::Head;
 use nsap::Address;
 use nsap::base::InlineOctets;
 use std::marker::Model;
@@ -58,13 +57,12 @@ impl Model for Header {
 }
 
 impl Header {
-    /// The header of a PDU, as `decode` finds it.
-    pub fn of(pdu: &Pdu<'_>) -> Header
-        requires { IsHeader pdu.now.head.now }
-        ensures { result ≡ pdu.now.head.now }
+    /// The header with these octets, as `decode` finds them in front of a PDU.
+    pub fn of(octets: &[u8]) -> Header
+        requires { IsHeader octets.now }
+        ensures { result ≡ octets.now }
     {
-        let mut cells = InlineOctets::new();
-        cells.push(pdu.head);
+        let cells = InlineOctets::of(octets);
         Header { cells }
     }
 
@@ -103,13 +101,6 @@ impl Header {
         ensures few { length result.now ≤ 254 }
     {
         self.cells.as_bytes()
-    }
-
-    /// The octets by value.
-    pub fn head(&self) -> Head
-        ensures { result ≡ self.now }
-    {
-        Head::of(self.cells.as_bytes())
     }
 
     /// The segmentation part, where segmentation is permitted (ISO 8473, section 7.4).

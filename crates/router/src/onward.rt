@@ -31,7 +31,7 @@ pub(crate) struct Onward {
 /// How a PDU goes on with a header that was changed, by a way and its port, or for which reason it is discarded there.
 #[tactic(auto, using(crate::proofs::Going::ends))]
 pub(crate) fn by_port(
-    passing: &Passing,
+    passing: &Passing<'_>,
     head: Header,
     way: Way,
     port: &PortConfig,

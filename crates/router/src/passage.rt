@@ -55,13 +55,13 @@ pub(crate) fn no_way(head: &Header) -> Reason
 }
 
 /// The header of a PDU behind the router of a title, which may be congested.
-pub(crate) fn behind(head: &Header, title: &Address, congested: bool) -> Header
-    requires { IsHeader head.now }
+pub(crate) fn behind(head: Header, title: &Address, congested: bool) -> Header
+    requires { IsHeader head }
     ensures { (s : SystemState) (v : PduValue) → title_of s ≡ title.now → s.congested ≡ congested
-        → SpellsHeader v head.now
+        → SpellsHeader v head
         → SpellsHeader (with_options (options_behind s v.options) v) result }
 {
-    let mut head = *head;
+    let mut head = head;
     pass_own(&mut head, title);
     tell(&mut head, title, congested);
     head

@@ -11,7 +11,7 @@ use system_entity::Passing;
 pub(crate) fn may_be_redirected(
     holding: u16,
     came: &Neighbour,
-    passing: &Passing,
+    passing: &Passing<'_>,
     towards_title: bool,
     way: &Way,
 ) -> bool

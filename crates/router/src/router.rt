@@ -98,6 +98,7 @@ impl Router {
     /// # Errors
     ///
     /// `NoMemory`: `out` is then as it was, and the router is spent, at the moment at which it was.
+    #[inline(always)]
     pub fn step(
         &mut self,
         alloc: Global,
@@ -135,6 +136,7 @@ impl Router {
     /// # Errors
     ///
     /// `NoMemory`: `out` is then as it was, and the router is spent, at the moment at which it was.
+    #[inline(always)]
     pub fn tick(&mut self, alloc: Global, now: u64, out: &mut Vec<Output>) -> Result<(), NoMemory>
         requires later { self.old.entity.moment ≤ now }
         requires moment { now < 2 ^ 62 }
@@ -168,9 +170,10 @@ impl Router {
     {
         laws::deeds_are_of_their_moment();
         let neighbour = Neighbour { port, snpa: from };
-        match self.entity.frame(alloc, neighbour, group, frame, out)? {
-            Arrival::Done => Ok(()),
-            Arrival::Passes(passing) => self.forward(alloc, &neighbour, &passing, frame, out),
+        match self.entity.frame(alloc, neighbour, group, frame, out) {
+            Ok(Arrival::Done) => Ok(()),
+            Ok(Arrival::Passes(passing)) => self.forward(alloc, &neighbour, &passing, frame, out),
+            Err(refused) => Err(refused),
         }
     }
 
@@ -213,7 +216,7 @@ impl Router {
         &mut self,
         alloc: Global,
         came: &Neighbour,
-        passing: &Passing,
+        passing: &Passing<'_>,
         frame: &Frame,
         out: &mut Vec<Output>,
     ) -> Result<(), NoMemory>
@@ -241,11 +244,18 @@ impl Router {
                     cuts,
                 },
             ) => {
-                let from = passing.head.as_bytes().len();
+                let from = passing.head.len();
                 let before = out.len();
                 self.entity
-                    .pass_on(frame, from, passing.len, cuts, way.hop(), out)?;
-                if let Err(refused) = self.redirect(came, passing, towards_title, &way, out) {
+                    .pass_on(alloc, frame, from, passing.len, cuts, way.hop(), out)?;
+                if let Err(refused) = self.redirect(
+                    alloc,
+                    came,
+                    passing,
+                    towards_title,
+                    &way,
+                    out,
+                ) {
                     out.truncate(before);
                     return Err(refused);
                 }
@@ -256,7 +266,7 @@ impl Router {
     }
 
     /// How a PDU for another address goes on, or for which reason it is discarded.
-    fn onward(&self, passing: &Passing) -> Result<Onward, Reason>
+    fn onward(&self, passing: &Passing<'_>) -> Result<Onward, Reason>
         requires { (v : PduValue) × HasValue passing.now v }
         ensures goes { (s : SystemState) (came : Neighbour) (p : Packet) (following : List ℕ) → Stands self.now s
             → IsCarriable p
@@ -264,16 +274,17 @@ impl Router {
             → ComesTo result s came p following (goes_on s came p following) }
         ensures each { IfOk result (λ onward. AllByRecursion (IsCutOf passing.now.len) onward.cuts) }
     {
+        let head = Header::of(passing.head);
         let title = self.title();
-        if is_off_route(&passing.head, title) {
+        if is_off_route(&head, title) {
             return Err(Reason::PathNotAcceptable);
         }
-        let head = behind(&passing.head, title, self.entity.is_congested());
+        let head = behind(head, title, self.entity.is_congested());
         self.onward_with(passing, head)
     }
 
     /// How a PDU goes on with a header that was changed, or for which reason it is discarded.
-    fn onward_with(&self, passing: &Passing, head: Header) -> Result<Onward, Reason>
+    fn onward_with(&self, passing: &Passing<'_>, head: Header) -> Result<Onward, Reason>
         requires pdu { (v : PduValue) × HasValue passing.now v }
         requires head { (v : PduValue) × SpellsHeader v head × (length v.body ≡ passing.now.len) }
         ensures goes { (s : SystemState) (came : Neighbour) (p : Packet) (following : List ℕ) → Stands self.now s
@@ -310,8 +321,9 @@ impl Router {
     /// it came, where its source is known to be (ISO 9542, section 6.8).
     fn redirect(
         &mut self,
+        alloc: Global,
         came: &Neighbour,
-        passing: &Passing,
+        passing: &Passing<'_>,
         towards_title: bool,
         way: &Way,
         out: &mut Vec<Output>,
@@ -328,7 +340,9 @@ impl Router {
     {
         if self.is_redirected(came, passing, towards_title, way) {
             let neighbour = *came;
-            return self.entity.redirect(neighbour, &passing.to, way, out);
+            return self
+                .entity
+                .redirect(alloc, neighbour, &passing.to, way, out);
         }
         Ok(())
     }
@@ -339,7 +353,7 @@ impl Router {
     fn is_redirected(
         &self,
         came: &Neighbour,
-        passing: &Passing,
+        passing: &Passing<'_>,
         towards_title: bool,
         way: &Way,
     ) -> bool

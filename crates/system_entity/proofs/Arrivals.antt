@@ -60,16 +60,16 @@ value_found one begun P frame v rest begins other (Unlabelled octets) none e for
     absurd (none.esis v rest (record { octets = begins.octets; spells = begins.spells; split = e ∙ begins.split }))
 
 -- what is needed of a PDU that was read has its value
-pub of_value : (pdu : Pdu) (first : Bool) (head : List ℕ) (len : ℕ) → SpellsHeader (pdu_value pdu) pdu.head.now
-    → first ≡ begins_unit (option_map part_value pdu.seg) → head ≡ pdu.head.now → len ≡ length pdu.body.now
-    → HasValue (record { to = pdu.to; from = pdu.from; first = first; life = pdu.life; head = head; len = len }) (pdu_value pdu)
-of_value pdu first head len spells begins of count =
+pub of_value : (pdu : Pdu) (first : Bool) (len : ℕ) → SpellsHeader (pdu_value pdu) pdu.head.now
+    → first ≡ begins_unit (option_map part_value pdu.seg) → len ≡ length pdu.body.now
+    → HasValue (record { to = pdu.to; from = pdu.from; first = first; life = pdu.life; head = pdu.head; len = len }) (pdu_value pdu)
+of_value pdu first len spells begins count =
     record {
       destination = refl;
       source = refl;
       first = sym begins;
       lifetime = refl;
-      header = subst (λ (octets : List ℕ). SpellsHeader (pdu_value pdu) octets) (sym of) spells;
+      header = spells;
       len = sym count;
     }
 

@@ -29,7 +29,7 @@ pub record HasValue (passing : Passing) (v : PduValue) : Type 0 where
   pub source : v.source ≡ passing.from
   pub first : begins_unit v.segmentation ≡ passing.first
   pub lifetime : v.lifetime ≡ passing.life
-  pub header : SpellsHeader v passing.head
+  pub header : SpellsHeader v passing.head.now
   pub len : length v.body ≡ passing.len
 
 -- it stands at the front of the frame: the header, the data, and what follows them

@@ -50,12 +50,12 @@ mod steps;
 use steps::{has_content, pass_pieces, ports_of, routes_of, tell_way};
 
 /// What came of a frame.
-#[derive(Clone, Copy, PartialEq, Eq)]
-pub enum Arrival {
+#[derive(Clone, Copy)]
+pub enum Arrival<'a> {
     /// All was done that is to be done.
     Done,
     /// It carries a PDU with a lifetime left for an address that isn't the system's, and nothing was done yet.
-    Passes(Passing),
+    Passes(Passing<'a>),
 }
 
 /// What a system does whatever its role. Its moment is that of its last `tick`, or of its start.
@@ -124,10 +124,11 @@ impl SystemEntity {
         ensures stands { IfOk result (λ entity. (place : ℕ) → Stands entity (first_state place config.now limits.now now quiet)) }
         ensures moment { IfOk result (λ entity. entity.moment ≡ now) }
     {
-        let local = Local::new(alloc, config, limits, quiet)?;
-        let esis = EsisEntity::new(alloc, config, now)?;
+        // What has the fewest parts comes first: each of these is taken apart where memory is refused behind it.
         let ports = ports_of(alloc, config)?;
         let routes = routes_of(alloc, config)?;
+        let esis = EsisEntity::new(alloc, config, now)?;
+        let local = Local::new(alloc, config, limits, quiet)?;
         Ok(SystemEntity {
             local,
             esis,
@@ -144,6 +145,7 @@ impl SystemEntity {
     /// # Errors
     ///
     /// `NoMemory`: `out` is then as it was, and the entity is spent, at the moment at which it was.
+    #[inline(always)]
     pub fn tick(&mut self, alloc: Global, now: u64, out: &mut Vec<Output>) -> Result<(), NoMemory>
         requires later { self.old.moment ≤ now }
         requires moment { now < 2 ^ 62 }
@@ -170,14 +172,14 @@ impl SystemEntity {
     /// # Errors
     ///
     /// `NoMemory`: `out` is then as it was, and the entity is spent.
-    pub fn frame(
+    pub fn frame<'a>(
         &mut self,
         alloc: Global,
         neighbour: Neighbour,
         group: bool,
-        frame: &Frame,
+        frame: &'a Frame,
         out: &mut Vec<Output>,
-    ) -> Result<Arrival, NoMemory>
+    ) -> Result<Arrival<'a>, NoMemory>
         requires few { length frame.now ≤ 70000 }
         ensures comes { IfOk result (λ arrival. (s : SystemState) (content : Content) → Stands self.old s → IsCarried content
             → frame_of content ≡ frame.now → ComesOf arrival s neighbour group content self.new out.old.items out.new.items) }
@@ -196,9 +198,13 @@ impl SystemEntity {
         }
         has_content(frame);
         self.spent = true;
-        let arrival = self.arrive(alloc, neighbour, group, frame, out)?;
-        self.spent = false;
-        Ok(arrival)
+        match self.arrive(alloc, neighbour, group, frame, out) {
+            Ok(arrival) => {
+                self.spent = false;
+                Ok(arrival)
+            }
+            Err(refused) => Err(refused),
+        }
     }
 
     /// A PDU that came in a frame is discarded, for a reason and with the place of the octet at fault (ISO/IEC 8473, section
@@ -246,6 +252,7 @@ impl SystemEntity {
     /// `NoMemory`: `out` is then as it was, and the entity is spent.
     pub fn pass_on(
         &mut self,
+        alloc: Global,
         frame: &Frame,
         from: usize,
         len: usize,
@@ -267,7 +274,7 @@ impl SystemEntity {
         if self.spent {
             return Err(NoMemory);
         }
-        match pass_pieces(frame, from, len, cuts, hop, out) {
+        match pass_pieces(alloc, frame, from, len, cuts, hop, out) {
             Ok(()) => Ok(()),
             Err(_) => {
                 self.spent = true;
@@ -283,6 +290,7 @@ impl SystemEntity {
     /// `NoMemory`: `out` is then as it was, and the entity is spent.
     pub fn redirect(
         &mut self,
+        alloc: Global,
         neighbour: Neighbour,
         to: &Address,
         way: &Way,
@@ -303,7 +311,7 @@ impl SystemEntity {
         if self.spent {
             return Err(NoMemory);
         }
-        match tell_way(self.local.config(), neighbour, to, way, out) {
+        match tell_way(alloc, self.local.config(), neighbour, to, way, out) {
             Ok(()) => Ok(()),
             Err(_) => {
                 self.spent = true;

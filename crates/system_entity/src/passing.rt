@@ -5,12 +5,12 @@ ghost use Rattle.clnp_machine.specs.Step.{begins_unit};
 ghost use Rattle.clnp_machine.specs.PduHeader.View.{part_value, pdu_value};
 ghost use Rattle.system_entity.specs.Comes.{HasValue};
 
-use clnp_machine::clnp::{Header, Pdu, SegPart};
+use clnp_machine::clnp::{Pdu, SegPart};
 use clnp_machine::nsaps::Address;
 
 /// A PDU with a lifetime left for an address that isn't the system's: all that is needed so that it goes on.
-#[derive(Clone, Copy, PartialEq, Eq)]
-pub struct Passing {
+#[derive(Clone, Copy)]
+pub struct Passing<'a> {
     /// The destination.
     pub to: Address,
     /// The source.
@@ -19,27 +19,26 @@ pub struct Passing {
     pub first: bool,
     /// The lifetime that remains, in ticks of 500 ms (ISO/IEC 8473, section 7.2.5).
     pub life: u8,
-    /// The header, which stands at the front of the frame.
-    pub head: Header,
+    /// The header's octets, which stand at the front of the frame.
+    pub head: &'a [u8],
     /// How many octets of data follow it.
     pub len: usize,
 }
 
-impl Passing {
+impl<'a> Passing<'a> {
     /// What is needed of a PDU at the front of a frame.
     #[tactic(auto, using(crate::proofs::Arrivals::of_value))]
-    pub(crate) fn of(pdu: &Pdu<'_>) -> Passing
+    pub(crate) fn of(pdu: &Pdu<'a>) -> Passing<'a>
         requires { SpellsHeader (pdu_value pdu.now) pdu.now.head.now }
         ensures { HasValue result (pdu_value pdu.now) }
     {
-        let head = Header::of(pdu);
         let len = pdu.body.len();
         Passing {
             to: pdu.to,
             from: pdu.from,
             first: begins_unit(pdu.seg),
             life: pdu.life,
-            head,
+            head: pdu.head,
             len,
         }
     }

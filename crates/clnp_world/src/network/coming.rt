@@ -21,6 +21,7 @@ use std::mem;
 impl Network {
     /// Something comes to the system at a place, where there is one, and what the system gives out goes out. A frame that
     /// comes has the origin `came`; where none does, any origin serves.
+    #[inline(always)]
     pub(super) fn comes<L: LineSink>(
         &mut self,
         alloc: Global,

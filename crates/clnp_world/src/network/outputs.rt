@@ -20,7 +20,6 @@ use clnp_machine::base::NoMemory;
 use clnp_machine::nsaps::Target;
 use clnp_machine::system_plan::{Note, Output, PortConfig, Sending, SystemConfig};
 use clnp_machine::views::Frame;
-use clnp_systems::sent_frame;
 use std::alloc::Global;
 
 /// What a copy weighs beside the octets of its frame.
@@ -74,7 +73,7 @@ impl Network {
         match output {
             Output::Note(note) => self.write_note(alloc, place, note, lines),
             Output::Transmit(sending) => {
-                let frame = sent_frame(alloc, sending)?;
+                let frame = sending.frame.share()?;
                 self.write_transmission(alloc, place, sending.port, sending.to, &frame, lines)?;
                 let origin = self.origin_of(place, sending, came);
                 self.put_copy(place, sending.port, sending.to, origin, frame)

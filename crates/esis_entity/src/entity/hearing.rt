@@ -18,11 +18,14 @@ use clnp_machine::esis::{AddressList, EsisBody, EsisPdu};
 use clnp_machine::hearing::{Heard, Neighbour, TableKind};
 use clnp_machine::nsaps::{Address, Snpa};
 use clnp_machine::system_plan::{Note, Output, Role, SystemConfig};
+use std::alloc::Global;
 
 impl EsisEntity {
     /// Hears a PDU in the role of the system.
+    #[inline(always)]
     pub(super) fn hear_in_role(
         &mut self,
+        alloc: Global,
         config: &SystemConfig,
         now: u64,
         neighbour: Neighbour,
@@ -39,15 +42,17 @@ impl EsisEntity {
         ensures front { StaysInFront out.old.items out.new.items }
     {
         match config.role() {
-            Role::Host => self.hear_as_host(config, now, neighbour, pdu, out),
-            Role::Router => self.hear_as_router(config, now, neighbour, pdu, out),
+            Role::Host => self.hear_as_host(alloc, config, now, neighbour, pdu, out),
+            Role::Router => self.hear_as_router(alloc, config, now, neighbour, pdu, out),
         }
     }
 
     /// Hears a PDU as an end system, which answers an intermediate system that is new, and then follows its wish.
+    #[inline(always)]
     #[tactic(auto, using(crate::proofs::Fronts::front_more))]
     fn hear_as_host(
         &mut self,
+        alloc: Global,
         config: &SystemConfig,
         now: u64,
         neighbour: Neighbour,
@@ -72,7 +77,7 @@ impl EsisEntity {
                 Ok(())
             }
             EsisBody::Ish { title } => {
-                self.hear_router(config, now, &neighbour, hold, title, out)?;
+                self.hear_router(alloc, config, now, &neighbour, hold, title, out)?;
                 self.follow(now, suggested);
                 Ok(())
             }
@@ -81,8 +86,10 @@ impl EsisEntity {
     }
 
     /// Hears a PDU as an intermediate system, which answers an end system with an address that is new.
+    #[inline(always)]
     fn hear_as_router(
         &mut self,
+        alloc: Global,
         config: &SystemConfig,
         now: u64,
         neighbour: Neighbour,
@@ -98,7 +105,7 @@ impl EsisEntity {
         let EsisPdu { hold, body, .. } = pdu;
         match body {
             EsisBody::Esh { addresses } => {
-                self.hear_end_system(config, now, &neighbour, hold, addresses, out)
+                self.hear_end_system(alloc, config, now, &neighbour, hold, addresses, out)
             }
             EsisBody::Ish { .. } => give_note(Note::Ignored { rd: false }, out),
             EsisBody::Rd { .. } => give_note(Note::Ignored { rd: true }, out),
@@ -109,6 +116,7 @@ impl EsisEntity {
     #[tactic(auto, using(crate::proofs::Fronts::front_more))]
     fn hear_router(
         &mut self,
+        alloc: Global,
         config: &SystemConfig,
         now: u64,
         neighbour: &Neighbour,
@@ -125,7 +133,7 @@ impl EsisEntity {
         ensures front { StaysInFront out.old.items out.new.items }
     {
         let new = self.hear_key(now, TableKind::Is, title, neighbour, hold, out)?;
-        self.answer(config, neighbour, new, out)
+        self.answer(alloc, config, neighbour, new, out)
     }
 
     /// Hears a redirect from an intermediate system that is known to be there, and ignores one from elsewhere (section 6.9).
@@ -159,6 +167,7 @@ impl EsisEntity {
     #[tactic(auto, using(crate::proofs::Fronts::front_more))]
     fn hear_end_system(
         &mut self,
+        alloc: Global,
         config: &SystemConfig,
         now: u64,
         neighbour: &Neighbour,
@@ -173,7 +182,7 @@ impl EsisEntity {
         ensures front { StaysInFront out.old.items out.new.items }
     {
         let new = self.hear_each(now, neighbour, hold, addresses, out)?;
-        self.answer(config, neighbour, new, out)
+        self.answer(alloc, config, neighbour, new, out)
     }
 
     /// Hears each address of an end system, in order. Whether one of them is new.
@@ -222,6 +231,7 @@ impl EsisEntity {
     /// Tells a system of itself where something new was heard.
     fn answer(
         &self,
+        alloc: Global,
         config: &SystemConfig,
         neighbour: &Neighbour,
         new: bool,
@@ -233,7 +243,7 @@ impl EsisEntity {
         ensures front { StaysInFront out.old.items out.new.items }
     {
         if new {
-            return self.tell(config, *neighbour, out);
+            return self.tell(alloc, config, *neighbour, out);
         }
         Ok(())
     }

@@ -13,9 +13,11 @@ use clnp_machine::esis::{HelloRefusal, esh, ish};
 use clnp_machine::nsaps::{Address, Target};
 use clnp_machine::system_plan::{Output, Role, SystemConfig};
 use clnp_machine::views::Head;
+use std::alloc::Global;
 
 /// Says hello on each of so many ports, as a system that says it once in `period` seconds.
 pub(crate) fn say_everywhere(
+    alloc: Global,
     config: &SystemConfig,
     ports: u8,
     period: u16,
@@ -27,7 +29,7 @@ pub(crate) fn say_everywhere(
 {
     let pdu = hello(config, period);
     for port in 0..ports {
-        send(port, hearers(config.role()), pdu, out)?;
+        send(alloc, port, hearers(config.role()), &pdu, out)?;
     }
     Ok(())
 }

@@ -9,7 +9,8 @@ ghost use Rattle.esis_entity.specs.Does.{StaysInFront};
 use clnp_machine::base::NoMemory;
 use clnp_machine::nsaps::Target;
 use clnp_machine::system_plan::{Note, Output, Sending};
-use clnp_machine::views::Head;
+use clnp_machine::views::{Frame, Head};
+use std::alloc::Global;
 
 /// Gives out a note.
 pub(crate) fn give_note(note: Note, out: &mut Vec<Output>) -> Result<(), NoMemory>
@@ -22,17 +23,23 @@ pub(crate) fn give_note(note: Note, out: &mut Vec<Output>) -> Result<(), NoMemor
 }
 
 /// Gives out the frame of a PDU.
-pub(crate) fn send(port: u8, to: Target, pdu: Head, out: &mut Vec<Output>) -> Result<(), NoMemory>
-    ensures given { OnOk result ((moment : ℕ) (value : EsisValue) → Spells value pdu
+pub(crate) fn send(
+    alloc: Global,
+    port: u8,
+    to: Target,
+    pdu: &Head,
+    out: &mut Vec<Output>,
+) -> Result<(), NoMemory>
+    ensures given { OnOk result ((moment : ℕ) (value : EsisValue) → Spells value pdu.now
         → Appends moment None out.old.items out.new.items (SendsEsis port to value ∷ [])) }
     ensures none { OnErr result (out.new.items ≡ out.old.items) }
     ensures front { StaysInFront out.old.items out.new.items }
 {
+    let frame = Frame::copy(alloc, pdu.as_bytes())?;
     let sending = Sending {
         port,
         to,
-        head: pdu,
-        body: None,
+        frame,
         forwarded: false,
     };
     out.push(Output::Transmit(sending))?;

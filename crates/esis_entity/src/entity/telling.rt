@@ -16,6 +16,7 @@ use super::output::give_note;
 use clnp_machine::base::NoMemory;
 use clnp_machine::hearing::{Gone, Tables, laws};
 use clnp_machine::system_plan::{Note, Output, SystemConfig};
+use std::alloc::Global;
 
 /// Forgets what has ended, and notes each key.
 fn forget(tables: &mut Tables, now: u64, out: &mut Vec<Output>) -> Result<(), NoMemory>
@@ -39,6 +40,7 @@ impl EsisEntity {
     #[tactic(auto, using(crate::proofs::Fronts::front_more))]
     pub(super) fn forget_and_say(
         &mut self,
+        alloc: Global,
         config: &SystemConfig,
         ports: u8,
         now: u64,
@@ -54,12 +56,13 @@ impl EsisEntity {
         ensures front { StaysInFront out.old.items out.new.items }
     {
         forget(&mut self.tables, now, out)?;
-        self.say_hello(config, ports, now, out)
+        self.say_hello(alloc, config, ports, now, out)
     }
 
     /// Says hello where it is due; the next one is due a period later.
     fn say_hello(
         &mut self,
+        alloc: Global,
         config: &SystemConfig,
         ports: u8,
         now: u64,
@@ -75,6 +78,6 @@ impl EsisEntity {
             return Ok(());
         }
         self.next_hello = now + 2 * u64::from(self.period);
-        say_everywhere(config, ports, self.period, out)
+        say_everywhere(alloc, config, ports, self.period, out)
     }
 }

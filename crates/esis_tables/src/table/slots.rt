@@ -1,5 +1,5 @@
 //! Entries that stay where they are.
-ghost use Rattle.std.specs.Prelude.{◌≡◌, ◌≢◌, ◌<◌, ◌≤◌, ◌+◌, ◌-◌, ◌^◌, ℕ, List, [], ◌∷◌, nat_le, insert, length, map, remove, IfOk, Some, slice_get, slice_set, vec_capacity};
+ghost use Rattle.std.specs.Prelude.{◌≡◌, ◌≢◌, ◌<◌, ◌≤◌, ◌+◌, ◌-◌, ◌^◌, ℕ, List, [], ◌∷◌, nat_le, insert, length, map, remove, IfOk, IfSome, Some, slice_get, slice_set, vec_capacity};
 ghost use Rattle.std.specs.List.{AllByRecursion};
 ghost use Rattle.std.specs.Option.{option_map};
 ghost use Rattle.esis_tables.specs.Slots.{AreTaken};
@@ -99,8 +99,23 @@ impl Slots {
         &self.keys[slot]
     }
 
-    /// Puts an entry in at a place.
-    pub(super) fn put(&mut self, place: usize, entry: Entry)
+    /// The key of the entry at a place, if it stands in this slot: neither is read behind the other.
+    pub(super) fn key_in_slot(&self, place: usize, slot: u16) -> Option<&Address>
+        ensures { IfSome result (λ key. (place < length self.now.entries)
+            × (option_map key_in (slice_get self.now.entries place) ≡ Some key.now)) }
+    {
+        if place >= self.order.len() {
+            return None;
+        }
+        let taken = self.order[place];
+        if taken != slot {
+            return None;
+        }
+        Some(&self.keys[usize::from(slot)])
+    }
+
+    /// Puts an entry in at a place. Tells its slot.
+    pub(super) fn put(&mut self, place: usize, entry: Entry) -> u16
         requires place { place ≤ length self.old.entries }
         requires room { length self.old.entries < self.old.limit }
         ensures entries { self.new.entries ≡ insert self.old.entries place entry }
@@ -110,18 +125,21 @@ impl Slots {
         let Ok(()) = self.order.insert(place, slot) else {
             unreachable!()
         };
+        slot
     }
 
-    /// Puts an entry in the place of another.
-    pub(super) fn set(&mut self, place: usize, entry: Entry)
+    /// Puts an entry in the place of another. Tells its slot.
+    pub(super) fn set(&mut self, place: usize, entry: Entry) -> u16
         requires { place < length self.old.entries }
         ensures entries { self.new.entries ≡ slice_set self.old.entries place entry }
         ensures limit { self.new.limit ≡ self.old.limit }
     {
         let key = entry.key;
-        let slot = usize::from(self.order[place]);
+        let taken = self.order[place];
+        let slot = usize::from(taken);
         self.entries[slot] = entry;
         self.keys[slot] = key;
+        taken
     }
 
     /// Takes the entry at a place out.

@@ -73,26 +73,26 @@ impl SystemEntity {
         let ports = self.port_count();
         // Most ticks end no buffer: nothing is gathered then.
         if actions.is_empty() {
-            self.esis.tick(self.local.config(), ports, now, out)?;
+            self.esis.tick(alloc, self.local.config(), ports, now, out)?;
             return Ok(());
         }
         let mut outputs = Vec::new(alloc);
-        self.give_out(actions, &mut outputs)?;
+        self.give_out(alloc, actions, &mut outputs)?;
         self.esis
-            .tick(self.local.config(), ports, now, &mut outputs)?;
+            .tick(alloc, self.local.config(), ports, now, &mut outputs)?;
         out.append(&mut outputs)?;
         Ok(())
     }
 
     /// A frame comes.
-    pub(super) fn arrive(
+    pub(super) fn arrive<'a>(
         &mut self,
         alloc: Global,
         neighbour: Neighbour,
         group: bool,
-        frame: &Frame,
+        frame: &'a Frame,
         out: &mut Vec<Output>,
-    ) -> Result<Arrival, NoMemory>
+    ) -> Result<Arrival<'a>, NoMemory>
         requires at_work { IsAtWork self.old }
         requires few { length frame.now ≤ 70000 }
         ensures comes { IfOk result (λ arrival. (s : SystemState) (content : Content) → PartsStand self.old s → IsCarried content
@@ -114,7 +114,7 @@ impl SystemEntity {
                 Ok(Arrival::Done)
             }
             Err(Refusal::NotClnp) => {
-                self.other_comes(neighbour, frame, out)?;
+                self.other_comes(alloc, neighbour, frame, out)?;
                 Ok(Arrival::Done)
             }
         }
@@ -122,15 +122,15 @@ impl SystemEntity {
 
     /// A PDU comes: its lifetime is over (ISO 8473, section 6.4), or it is for another address, or for the system (section
     /// 6.2).
-    fn pdu_comes(
+    fn pdu_comes<'a>(
         &mut self,
         alloc: Global,
-        pdu: &Pdu<'_>,
+        pdu: &Pdu<'a>,
         neighbour: Neighbour,
         group: bool,
         frame: &Frame,
         out: &mut Vec<Output>,
-    ) -> Result<Arrival, NoMemory>
+    ) -> Result<Arrival<'a>, NoMemory>
         requires at_work { IsAtWork self.old }
         requires few { length frame.now ≤ 70000 }
         requires front { BeginsWith frame.now (pdu_value pdu.now) pdu.now.rest.now }
@@ -193,8 +193,8 @@ impl SystemEntity {
         self.local
             .receive_pdu(alloc, self.moment, pdu, frame, &mut actions)?;
         let before = out.len();
-        self.give_out(actions, out)?;
-        if let Err(refused) = self.respond(neighbour, group, out) {
+        self.give_out(alloc, actions, out)?;
+        if let Err(refused) = self.respond(alloc, neighbour, group, out) {
             out.truncate(before);
             return Err(refused);
         }
@@ -204,6 +204,7 @@ impl SystemEntity {
     /// A host that was asked for through a group tells the sender of itself (ISO 9542, section 6.6).
     fn respond(
         &self,
+        alloc: Global,
         neighbour: Neighbour,
         group: bool,
         out: &mut Vec<Output>,
@@ -217,7 +218,7 @@ impl SystemEntity {
             return Ok(());
         }
         match self.local.config().role() {
-            Role::Host => self.esis.tell(self.local.config(), neighbour, out),
+            Role::Host => self.esis.tell(alloc, self.local.config(), neighbour, out),
             Role::Router => Ok(()),
         }
     }
@@ -226,6 +227,7 @@ impl SystemEntity {
     /// protocol is noted.
     fn other_comes(
         &mut self,
+        alloc: Global,
         neighbour: Neighbour,
         frame: &Frame,
         out: &mut Vec<Output>,
@@ -249,7 +251,8 @@ impl SystemEntity {
         match clnp_machine::esis::decode(frame.bytes()) {
             Ok(pdu) => {
                 let config = self.local.config();
-                self.esis.hear(config, self.moment, neighbour, pdu, out)?;
+                self.esis
+                    .hear(alloc, config, self.moment, neighbour, pdu, out)?;
                 Ok(())
             }
             Err(refusal) => {
@@ -287,7 +290,7 @@ impl SystemEntity {
         let mut actions = Vec::new(alloc);
         self.local
             .discard(alloc, self.moment, frame, reason, place, &mut actions)?;
-        self.give_out(actions, out)?;
+        self.give_out(alloc, actions, out)?;
         Ok(())
     }
 
@@ -322,14 +325,19 @@ impl SystemEntity {
         laws::deeds_are_of_their_moment();
         let mut actions = Vec::new(alloc);
         let unit = self.local.make(alloc, self.moment, kind, from, to, body, ask, &mut actions)?;
-        let Ok(()) = self.give_out(actions, out) else {
+        let Ok(()) = self.give_out(alloc, actions, out) else {
             return Err(SendRefusal::NoMemory);
         };
         Ok(unit)
     }
 
     /// Gives out what was done at the system's addresses, or nothing.
-    fn give_out(&self, actions: Vec<Action>, out: &mut Vec<Output>) -> Result<(), NoMemory>
+    fn give_out(
+        &self,
+        alloc: Global,
+        actions: Vec<Action>,
+        out: &mut Vec<Output>,
+    ) -> Result<(), NoMemory>
         requires { (others : List locally.Action) × DoAll actions.items others }
         ensures given { OnOk result ((s : SystemState) (before : ℕ) (others : List locally.Action) → PartsStandSince before self.now s
             → DoAll actions.items others → AllByRecursion (IsFresh s.moment) others
@@ -339,7 +347,7 @@ impl SystemEntity {
     {
         let before = out.len();
         for action in actions {
-            if let Err(refused) = self.give(action, out) {
+            if let Err(refused) = self.give(alloc, action, out) {
                 out.truncate(before);
                 return Err(refused);
             }
@@ -348,7 +356,7 @@ impl SystemEntity {
     }
 
     /// Gives out one thing that was done.
-    fn give(&self, action: Action, out: &mut Vec<Output>) -> Result<(), NoMemory>
+    fn give(&self, alloc: Global, action: Action, out: &mut Vec<Output>) -> Result<(), NoMemory>
         requires { (other : locally.Action) × Does action other }
         ensures given { OnOk result ((s : SystemState) (before : ℕ) (other : locally.Action) → PartsStandSince before self.now s
             → Does action other → IsFresh s.moment other
@@ -361,7 +369,10 @@ impl SystemEntity {
                 out.push_reserved(Output::Note(note));
                 Ok(())
             }
-            Action::Send(made) => { send_unit(&made, self.unit_hop(&made.to), self.ports(), out) }
+            Action::Send(made) => {
+                let hop = self.unit_hop(&made.to);
+                send_unit(alloc, &made, hop, self.ports(), out)
+            }
         }
     }
 
@@ -409,6 +420,7 @@ pub(super) fn routes_of(alloc: Global, config: &SystemConfig) -> Result<Routes, 
 
 /// Gives out all pieces of the PDU whose data are `len` octets of a frame, from place `from` on, or nothing.
 pub(super) fn pass_pieces(
+    alloc: Global,
     frame: &Frame,
     from: usize,
     len: usize,
@@ -422,11 +434,12 @@ pub(super) fn pass_pieces(
     ensures none { OnErr result (out.new.items ≡ out.old.items) }
 {
     let body = frame.view()?.narrow(from, len);
-    give_pieces(cuts, hop, &body, true, out)
+    give_pieces(alloc, cuts, hop, &body, true, out)
 }
 
 /// Tells a system, at a place of one's own, of the way to an address, or gives out nothing.
 pub(super) fn tell_way(
+    alloc: Global,
     config: &SystemConfig,
     neighbour: Neighbour,
     to: &Address,
@@ -440,7 +453,15 @@ pub(super) fn tell_way(
     ensures none { OnErr result (out.new.items ≡ out.old.items) }
 {
     let title = way.title.as_ref();
-    send_redirect(config, neighbour, to, &way.neighbour.snpa, title, out)
+    send_redirect(
+        alloc,
+        config,
+        neighbour,
+        to,
+        &way.neighbour.snpa,
+        title,
+        out,
+    )
 }
 
 /// What is noted of a frame that no protocol accepts: the rule of ES-IS PDUs that it breaks, or that it is alien.

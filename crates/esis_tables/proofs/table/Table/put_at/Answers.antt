@@ -16,7 +16,7 @@ invariant_of-self c =
     let walked = subst (λ (m : ℕ). AreWalked c.up_to-self-inside.result.entries m t.slots.entries) (sym c.up_to-self-inside.ensures.soonest)
     (walked_less t.walk.soonest t.walk.entries c.up_to-self-inside.result.entries t.slots.entries (omega (arith, c.up_to-self-inside.ensures.entries)) c.self.invariant.1) in
     let within : c.args.at ≤ length t.slots.entries = omega (arith, c.requires.place, ap (λ (v : TableState). length v.entries) c.self.view_is) in (
-      subst (λ (l : List Entry). AreBounded c.min-self-inside.result c.args.entry.number l) (sym c.put.ensures.entries) bounded,
-      subst (λ (l : List Entry). AreWalked c.up_to-self-inside.result.entries c.up_to-self-inside.result.soonest l) (sym c.put.ensures.entries)
+      subst (λ (l : List Entry). AreBounded c.min-self-inside.result c.args.entry.number l) (sym c.put-slot.ensures.entries) bounded,
+      subst (λ (l : List Entry). AreWalked c.up_to-self-inside.result.entries c.up_to-self-inside.result.soonest l) (sym c.put-slot.ensures.entries)
           (walked_front c.up_to-self-inside.result.soonest c.up_to-self-inside.result.entries t.slots.entries (c.args.entry ∷ drop c.args.at t.slots.entries) c.args.at within less walked),
     )

@@ -15,7 +15,7 @@ invariant_of-self c =
     let less : c.up_to-self-inside.result.entries ≤ c.args.at = omega (arith, c.up_to-self-inside.ensures.entries) in
     let walked = subst (λ (m : ℕ). AreWalked c.up_to-self-inside.result.entries m t.slots.entries) (sym c.up_to-self-inside.ensures.soonest)
     (walked_less t.walk.soonest t.walk.entries c.up_to-self-inside.result.entries t.slots.entries (omega (arith, c.up_to-self-inside.ensures.entries)) c.self.invariant.1) in (
-      subst (λ (l : List Entry). AreBounded c.min-self-inside.result c.args.entry.number l) (sym c.set.ensures.entries) bounded,
-      subst (λ (l : List Entry). AreWalked c.up_to-self-inside.result.entries c.up_to-self-inside.result.soonest l) (sym c.set.ensures.entries)
+      subst (λ (l : List Entry). AreBounded c.min-self-inside.result c.args.entry.number l) (sym c.set-slot.ensures.entries) bounded,
+      subst (λ (l : List Entry). AreWalked c.up_to-self-inside.result.entries c.up_to-self-inside.result.soonest l) (sym c.set-slot.ensures.entries)
           (walked_set c.up_to-self-inside.result.soonest c.up_to-self-inside.result.entries t.slots.entries c.args.at c.args.entry less walked),
     )

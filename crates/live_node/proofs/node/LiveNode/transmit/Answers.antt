@@ -9,15 +9,10 @@ use Rattle.link_board.specs.ClnpBase.Streams.{AppendsFront}
 use Rattle.link_board.specs.Ports.{ChangesPort, Detaches, PortState, SendsOn, is_attached_at}
 use Rattle.live_model.specs.Lines.{Says, node_line_text}
 use Rattle.live_model.specs.Node.{transmits}
-use Rattle.live_node.proofs.Breaking.{breaks_nothing, idle_transmits, on_err}
+use Rattle.live_node.proofs.Breaking.{on_err}
 use Rattle.live_node.proofs.Steps.{past_end, sending_of, transmits_alone, transmits_broken, transmits_cut, transmits_lost, transmits_taken}
 use Rattle.live_node.proofs.node.LiveNode.transmit.Goals.{then-port-count-via-then-port-count, then-port-count-via-else-port-count+then-not-is_attached}
 use Rattle.live_node.proofs.node.LiveNode.transmit.Goals as goal
-
-pub returns-in_default-clause-breaks : goal.returns-in_default-clause-breaks
-returns-in_default-clause-breaks g c = λ node h.
-    let sent = sending_of c.args.sending.now in
-    breaks_nothing (transmits node sent) node (g.B.Ports.ports c.args.board.now) (g.K.Sink.written c.args.sink.now) (idle_transmits sent node)
 
 pub returns-in_err-write_transmission-clause-breaks : goal.returns-in_err-write_transmission-clause-breaks
 returns-in_err-write_transmission-clause-breaks g c =
@@ -30,8 +25,7 @@ returns-in_err-write_transmission-clause-breaks g c =
     let name = c.name-name.result.now in
     let named : name ≡ (clnp_systems.configuration_of live.system).name = c.name-name.ensures ∙ ap (λ (s : SystemConfiguration). s.name) c.config.ensures in
     transmits_cut live board board node h sent name name c.saturating_add-self.result named named c.saturating_add-self.ensures old old new
-    (subst (λ (octets : List ℕ). AppendsFront old new (node_line_text (Says (Transmitted live.now name c.saturating_add-self.result c.args.sending.now.port c.args.sending.now.to octets))))
-    c.in-Ok.ensures c.in_err-write_transmission.ensures.front))
+    c.in_err-write_transmission.ensures.front)
 
 pub returns-then-port-count-clause-plays : goal.returns-then-port-count-clause-plays
 returns-then-port-count-clause-plays g c = λ node h.
@@ -49,8 +43,7 @@ returns-then-port-count-clause-plays g c = λ node h.
           subst (λ (p : ℕ). is_attached_at p board ≡ false) c.from-port.ensures (sym w.is_attached.ensures ∙ w.if-not-is_attached.true)
     ] in
     transmits_alone live board board node h sent name name c.saturating_add-self.result named named c.saturating_add-self.ensures old old new off
-    (subst (λ (octets : List ℕ). Appends old new (node_line_text (Says (Transmitted live.now name c.saturating_add-self.result c.args.sending.now.port c.args.sending.now.to octets))))
-    c.in-Ok.ensures c.in_ok-write_transmission.ensures.written)
+    c.in_ok-write_transmission.ensures.written
 
 pub returns-in-Done-clause-plays : goal.returns-in-Done-clause-plays
 returns-in-Done-clause-plays g c = λ node h.
@@ -67,13 +60,12 @@ returns-in-Done-clause-plays g c = λ node h.
     let change : ChangesPort c.args.sending.now.port board after (λ (a b : PortState). SendsOn a b sent.frame) =
     subst (λ (p : ℕ). ChangesPort p board after (λ (a b : PortState). SendsOn a b sent.frame)) c.from-port.ensures
     (subst (λ (octets : List ℕ). ChangesPort c.from-port.result board after (λ (a b : PortState). SendsOn a b (record { target = c.args.sending.now.to; octets = octets })))
-    (append-nil c.bytes.result.now ∙ (c.bytes.ensures ∙ c.in-Ok.ensures)) c.in-Done.ensures) in
+    (append-nil c.bytes.result.now ∙ c.bytes.ensures) c.in-Done.ensures) in
     transmits_taken live board after node h sent name name c.saturating_add-self.result named named c.saturating_add-self.ensures old old new on change
-    (subst (λ (octets : List ℕ). Appends old new (node_line_text (Says (Transmitted live.now name c.saturating_add-self.result c.args.sending.now.port c.args.sending.now.to octets))))
-    c.in-Ok.ensures c.in_ok-write_transmission.ensures.written)
+    c.in_ok-write_transmission.ensures.written
 
-pub returns-clause-plays : goal.returns-clause-plays
-returns-clause-plays g c =
+pub returns-in-Detached-clause-plays : goal.returns-in-Detached-clause-plays
+returns-in-Detached-clause-plays g c =
     on_ok_weaker c.write_loss.result (λ lost node h.
     let live = c.args.self.now in
     let board = g.B.Ports.ports c.args.board.now in
@@ -89,12 +81,11 @@ returns-clause-plays g c =
     transmits_broken live board after node h sent name c.name.result.now c.saturating_add-self.result named owned c.saturating_add-self.ensures
     old mid (g.K.Sink.written c.write_loss.new.sink) on
     (subst (λ (p : ℕ). ChangesPort p board after Detaches) c.from-port.ensures c.in-Detached.ensures)
-    (subst (λ (octets : List ℕ). Appends old mid (node_line_text (Says (Transmitted live.now name c.saturating_add-self.result c.args.sending.now.port c.args.sending.now.to octets))))
-    c.in-Ok.ensures c.in_ok-write_transmission.ensures.written) lost)
+    c.in_ok-write_transmission.ensures.written lost)
     c.write_loss.ensures.written
 
-pub returns-clause-breaks : goal.returns-clause-breaks
-returns-clause-breaks g c =
+pub returns-in-Detached-clause-breaks : goal.returns-in-Detached-clause-breaks
+returns-in-Detached-clause-breaks g c =
     on_err_weaker c.write_loss.result (λ lost node h.
     let live = c.args.self.now in
     let board = g.B.Ports.ports c.args.board.now in
@@ -110,6 +101,5 @@ returns-clause-breaks g c =
     transmits_lost live board after node h sent name c.name.result.now c.saturating_add-self.result named owned c.saturating_add-self.ensures
     old mid (g.K.Sink.written c.write_loss.new.sink) on
     (subst (λ (p : ℕ). ChangesPort p board after Detaches) c.from-port.ensures c.in-Detached.ensures)
-    (subst (λ (octets : List ℕ). Appends old mid (node_line_text (Says (Transmitted live.now name c.saturating_add-self.result c.args.sending.now.port c.args.sending.now.to octets))))
-    c.in-Ok.ensures c.in_ok-write_transmission.ensures.written) lost)
+    c.in_ok-write_transmission.ensures.written lost)
     c.write_loss.ensures.front

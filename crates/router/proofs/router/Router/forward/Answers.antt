@@ -51,11 +51,11 @@ returns-in_default-clause-outputs c = λ s p following h carriable has frame.
     let stands = subst (λ (router : RouterState). entity.Stands router.entity s) (sym c.self.view_is) h in
     let goes = c.in-Ok.ensures.goes s c.args.came.now p following h carriable has in
     let way = c.in-Ok.field-0.way in
-    let head = c.as_bytes-from.result.now in
+    let head = c.args.passing.now.head.now in
     let len = c.args.passing.now.len in
     let body : Extent = part (length head) len (whole c.args.frame.now) in
     let shown : seen body ≡ (value_of p).body =
-    data_in c.args.frame.now head following (value_of p) len frame (c.as_bytes-from.ensures.octets ∙ has.header.octets_are) has.len in
+    data_in c.args.frame.now head following (value_of p) len frame has.header.octets_are has.len in
     let first : Appends s.moment (Some (Labelled p following)) c.args.out.now.items c.pass_on.new.out.items goes.pieces =
     record {
       outputs = map (transmission true (hop_by way) body) c.in-Ok.field-0.cuts;

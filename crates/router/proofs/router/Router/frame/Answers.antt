@@ -20,31 +20,31 @@ use Rattle.router.proofs.Passing.{onward, passed_after, passed_outputs}
 use Rattle.router.proofs.router.Router.frame.Goals as goal
 use Rattle.router.proofs.Going.{appends_whatever_came}
 
-pub returns-in-Done-clause-step : goal.returns-in-Done-clause-step
-returns-in-Done-clause-step c = λ content carried frame.
+pub returns-in-Ok-Done-clause-step : goal.returns-in-Ok-Done-clause-step
+returns-in-Ok-Done-clause-step c = λ content carried frame.
     let neighbour : Neighbour = record { port = c.args.port; snpa = c.args.from } in
     let done = λ (s : SystemState) (h : entity.Stands c.self.inside.entity s).
-    subst (λ (arrival : Arrival). ComesOf arrival s neighbour c.args.group content c.frame.new.self c.args.out.now.items c.frame.new.out.items) c.in-Done.is
-    (c.in_ok-frame.ensures.comes s content h carried frame) in
+    subst (λ (arrival : Arrival). ComesOf arrival s neighbour c.args.group content c.frame.new.self c.args.out.now.items c.frame.new.out.items) c.in-Ok-Done.field-0-is
+    (c.in-Ok-Done.ensures.comes s content h carried frame) in
     subst (λ (router : RouterState). TakesStep role.Router (FrameComes c.args.port c.args.from c.args.group content) router.entity c.frame.new.self
     c.args.out.now.items c.frame.new.out.items) c.self.view_is
     record {
-      stands = λ s h. record { not_spent = c.in_ok-frame.ensures.not_spent; parts = (done s h).parts };
+      stands = λ s h. record { not_spent = c.in-Ok-Done.ensures.not_spent; parts = (done s h).parts };
       outputs = λ s h. appends_whatever_came s.moment content c.args.out.now.items c.frame.new.out.items (content_comes s neighbour c.args.group content).outputs
           (done s h).outputs;
-      moment = c.in_ok-frame.ensures.moment;
-      config = c.in_ok-frame.ensures.config;
+      moment = c.in-Ok-Done.ensures.moment;
+      config = c.in-Ok-Done.ensures.config;
     }
 
-pub returns-in-Passes-clause-step : goal.returns-in-Passes-clause-step
-returns-in-Passes-clause-step c =
+pub returns-in-Ok-Passes-clause-step : goal.returns-in-Ok-Passes-clause-step
+returns-in-Ok-Passes-clause-step c =
     let neighbour : Neighbour = record { port = c.args.port; snpa = c.args.from } in
     let old = c.self.inside.entity in
     let left = subst (λ (arrival : Arrival). LeavesAsItWas arrival old c.frame.new.self c.args.out.now.items c.frame.new.out.items)
-    c.in-Passes.is c.in_ok-frame.ensures.left in
+    c.in-Ok-Passes.field-0-is c.in-Ok-Passes.ensures.left in
     on_ok_both c.forward.result (λ stood gave content carried frame.
     let other = λ (s : SystemState) (h : entity.Stands old s). subst (λ (arrival : Arrival). ComesOf arrival s neighbour c.args.group content
-    c.frame.new.self c.args.out.now.items c.frame.new.out.items) c.in-Passes.is (c.in_ok-frame.ensures.comes s content h carried frame) in
+    c.frame.new.self c.args.out.now.items c.frame.new.out.items) c.in-Ok-Passes.field-0-is (c.in-Ok-Passes.ensures.comes s content h carried frame) in
     let is_router = λ (s : SystemState) (h : entity.Stands old s).
     ap (λ (system : SystemConfiguration). system.role) (sym h.parts.local.configuration) ∙ c.self.invariant in
     let still = λ (s : SystemState) (h : entity.Stands old s). subst (λ (e : SystemEntityState). entity.Stands e s) (sym left.0) h in
@@ -69,7 +69,7 @@ returns-in-Passes-clause-step c =
           (c.deeds_are_of_their_moment.ensures.packet s neighbour p following).itself.configuration)
           (subst (λ (before : List Output). Appends s.moment (Some (Labelled p following)) before c.forward.new.out.items (onward s neighbour p following).outputs)
           left.1 (gave s p following (still s h) o.carriable o.has_value (octets s h))));
-      moment = c.forward.ensures.moment ∙ c.in_ok-frame.ensures.moment;
-      config = c.forward.ensures.config ∙ c.in_ok-frame.ensures.config;
+      moment = c.forward.ensures.moment ∙ c.in-Ok-Passes.ensures.moment;
+      config = c.forward.ensures.config ∙ c.in-Ok-Passes.ensures.config;
     })
     c.forward.ensures.stands c.forward.ensures.outputs

@@ -28,20 +28,20 @@ some_state Done s neighbour group content old here before after h left stands = 
 some_state (Passes passing) s neighbour group content old here before after h left stands =
     (s, subst (λ (e : SystemEntityState). PartsStand e s) (sym left.0) stands)
 
-pub returns-clause-comes : goal.returns-clause-comes
-returns-clause-comes c = λ s content h carried frame.
+pub returns-in-Ok-clause-comes : goal.returns-in-Ok-clause-comes
+returns-in-Ok-clause-comes c = λ s content h carried frame.
     let here = subst (λ (e : SystemEntityState). Stands e s) (sym c.self.view_is) h in
-    comes_again c.in_ok-arrival.arrival s c.args.neighbour c.args.group content _ false c.args.out.now.items c.arrive.new.out.items
-    (subst (λ (e : SystemEntityState). ComesOf c.in_ok-arrival.arrival s c.args.neighbour c.args.group content e c.args.out.now.items c.arrive.new.out.items)
-    (sym c.self-2.view_is) (c.in_ok-arrival.ensures.comes s content (while_spent _ _ s here.parts) carried frame))
+    comes_again c.in-Ok.arrival s c.args.neighbour c.args.group content _ false c.args.out.now.items c.arrive.new.out.items
+    (subst (λ (e : SystemEntityState). ComesOf c.in-Ok.arrival s c.args.neighbour c.args.group content e c.args.out.now.items c.arrive.new.out.items)
+    (sym c.self-2.view_is) (c.in-Ok.ensures.comes s content (while_spent _ _ s here.parts) carried frame))
 
-pub invariant_of-self-2 : goal.invariant_of-self-2
-invariant_of-self-2 c =
+pub invariant_of-self-in-Ok : goal.invariant_of-self-in-Ok
+invariant_of-self-in-Ok c =
     let old = c.self.invariant.some c.if-self.false in
     let content = c.has_content.ensures in
     let parts = while_spent _ _ old.state old.stands.parts in
-    let some = some_state c.in_ok-arrival.arrival old.state c.args.neighbour c.args.group content.0 _ c.arrive.new.self c.args.out.now.items c.arrive.new.out.items
-    (c.in_ok-arrival.ensures.comes old.state content.0 parts content.1 content.2) c.in_ok-arrival.ensures.left parts in
+    let some = some_state c.in-Ok.arrival old.state c.args.neighbour c.args.group content.0 _ c.arrive.new.self c.args.out.now.items c.arrive.new.out.items
+    (c.in-Ok.ensures.comes old.state content.0 parts content.1 content.2) c.in-Ok.ensures.left parts in
     record {
       moment = c.self-2.invariant.moment;
       wide = c.self-2.invariant.wide;

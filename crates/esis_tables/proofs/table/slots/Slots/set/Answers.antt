@@ -6,17 +6,17 @@ use Rattle.esis_tables.specs.State.{key_in}
 use Rattle.esis_tables.proofs.Slots.{as_many, key_within, set_entries, set_taken, slot_read, within_at}
 use Rattle.esis_tables.proofs.table.slots.Slots.set.Goals as goal
 
-pub index-requires : goal.index-requires
-index-requires c = omega (arith, c.requires, as_many c.self.invariant.0 c.self.view_is)
+pub index-taken-requires : goal.index-taken-requires
+index-taken-requires c = omega (arith, c.requires, as_many c.self.invariant.0 c.self.view_is)
 
 pub index_mut-requires : goal.index_mut-requires
 index_mut-requires c =
-    let at = slot_read c.self.invariant.0 c.self.view_is c.requires c.index.ensures c.from-slot.ensures in
+    let at = slot_read c.self.invariant.0 c.self.view_is c.requires c.index-taken.ensures c.from-slot.ensures in
     omega (arith, within_at c.self.invariant.0 c.args.place at)
 
 pub index_mut-requires-2 : goal.index_mut-requires-2
 index_mut-requires-2 c =
-    let at = slot_read c.self.invariant.0 c.self.view_is c.requires c.index.ensures c.from-slot.ensures in
+    let at = slot_read c.self.invariant.0 c.self.view_is c.requires c.index-taken.ensures c.from-slot.ensures in
     omega (arith, key_within c.self.invariant.0 c.args.place at c.self.invariant.1)
 
 pub invariant_of-self : goal.invariant_of-self
@@ -36,6 +36,6 @@ invariant_of-self c =
 
 pub returns-clause-entries : goal.returns-clause-entries
 returns-clause-entries c =
-    let at = slot_read c.self.invariant.0 c.self.view_is c.requires c.index.ensures c.from-slot.ensures in
+    let at = slot_read c.self.invariant.0 c.self.view_is c.requires c.index-taken.ensures c.from-slot.ensures in
     set_entries c.self.invariant.0 c.args.place at c.args.entry
     ∙ ap (λ v. slice_set v.entries c.args.place c.args.entry) c.self.view_is

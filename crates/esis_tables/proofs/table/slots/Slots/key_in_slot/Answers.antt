@@ -1,0 +1,25 @@
+-- By the slot that stands at the place.
+use Rattle.std.proofs.Common.{◌≡◌, ◌∙◌, ◌<◌, ap, arith, length, sym}
+use Rattle.std.specs.Option.{option_map}
+use Rattle.std.specs.Prelude.{slice_get}
+use Rattle.esis_tables.specs.State.{key_in}
+use Rattle.esis_tables.proofs.Slots.{as_many, key_read, key_within, slot_read}
+use Rattle.esis_tables.proofs.table.slots.Slots.key_in_slot.Goals as goal
+
+within : (c : goal.After-from) → c.args.place < length c.args.self.now.entries
+within c = omega (arith, c.if-place-len.false, c.len.ensures, as_many c.self.invariant.0 c.self.view_is, c.self.inside.order.ok.0)
+
+pub index-requires : goal.index-requires
+index-requires c =
+    let at = slot_read c.self.invariant.0 c.self.view_is (within c) c.index-taken.ensures (c.from.ensures ∙ sym c.if-taken-slot.false) in
+    omega (arith, key_within c.self.invariant.0 c.args.place at c.self.invariant.1)
+
+pub returns : goal.returns
+returns c =
+    let there : c.args.place < length c.args.self.now.entries =
+    omega (arith, c.if-place-len.false, c.len.ensures, as_many c.self.invariant.0 c.self.view_is, c.self.inside.order.ok.0) in
+    let at = slot_read c.self.invariant.0 c.self.view_is there c.index-taken.ensures (c.from.ensures ∙ sym c.if-taken-slot.false) in (
+      there,
+      ap (λ v. option_map key_in (slice_get v.entries c.args.place)) (sym c.self.view_is)
+          ∙ key_read c.self.invariant.0 c.args.place at c.self.invariant.1 c.index.result.now c.index.ensures,
+    )
