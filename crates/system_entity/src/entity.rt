@@ -47,7 +47,7 @@ mod changing;
 mod noting;
 mod steps;
 
-use steps::{has_content, pass_pieces, ports_of, routes_of, tell_way};
+use steps::{give_note, has_content, pass_pieces, ports_of, routes_of, tell_way};
 
 /// What came of a frame.
 #[derive(Clone, Copy)]
@@ -338,7 +338,7 @@ impl SystemEntity {
         if self.spent {
             return Err(NoMemory);
         }
-        match out.push(Output::Note(note)) {
+        match give_note(note, out) {
             Ok(()) => Ok(()),
             Err(_) => {
                 self.spent = true;

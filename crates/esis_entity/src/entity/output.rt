@@ -35,6 +35,7 @@ pub(crate) fn send(
     ensures none { OnErr result (out.new.items ≡ out.old.items) }
     ensures front { StaysInFront out.old.items out.new.items }
 {
+    out.reserve(1)?;
     let frame = Frame::copy(alloc, pdu.as_bytes())?;
     let sending = Sending {
         port,
@@ -42,6 +43,6 @@ pub(crate) fn send(
         frame,
         forwarded: false,
     };
-    out.push(Output::Transmit(sending))?;
+    out.push_reserved(Output::Transmit(sending));
     Ok(())
 }

@@ -8,6 +8,7 @@ ghost use Rattle.clnp_machine.specs.PduHeader.Headers.{SpellsHeader};
 ghost use Rattle.clnp_machine.specs.PduHeader.Rules.{octet};
 ghost use Rattle.clnp_machine.specs.PduHeader.View.{pdu_value};
 ghost use Rattle.clnp_machine.specs.ClnpPlan.Configuration.{IsPort};
+ghost use Rattle.clnp_machine.specs.ClnpPlan.declared.output.Output.TheVariants.{Note as Noted};
 ghost use Rattle.clnp_machine.specs.Content.{Content, IsCarried, Labelled, frame_of};
 ghost use Rattle.clnp_machine.specs.Given.{Appends};
 ghost use Rattle.clnp_machine.specs.Local as locally;
@@ -256,7 +257,7 @@ impl SystemEntity {
                 Ok(())
             }
             Err(refusal) => {
-                out.push(Output::Note(unheard(refusal)))?;
+                give_note(unheard(refusal), out)?;
                 Ok(())
             }
         }
@@ -364,11 +365,7 @@ impl SystemEntity {
         ensures front { StaysInFront out.old.items out.new.items }
     {
         match action {
-            Action::Note(note) => {
-                out.reserve(1)?;
-                out.push_reserved(Output::Note(note));
-                Ok(())
-            }
+            Action::Note(note) => give_note(note, out),
             Action::Send(made) => {
                 let hop = self.unit_hop(&made.to);
                 send_unit(alloc, &made, hop, self.ports(), out)
@@ -392,6 +389,17 @@ impl SystemEntity {
             }
         }
     }
+}
+
+/// Gives out a note.
+pub(super) fn give_note(note: Note, out: &mut Vec<Output>) -> Result<(), NoMemory>
+    ensures given { OnOk result (out.new.items ≡ out.old.items ++ Noted note ∷ []) }
+    ensures none { OnErr result (out.new.items ≡ out.old.items) }
+    ensures front { StaysInFront out.old.items out.new.items }
+{
+    out.reserve(1)?;
+    out.push_reserved(Output::Note(note));
+    Ok(())
 }
 
 /// The ports of a configuration.

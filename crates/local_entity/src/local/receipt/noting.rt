@@ -12,7 +12,5 @@ pub(super) fn note(out: &mut Vec<Action>, note: Note)
     ensures len { vec_len out.new ≡ vec_len out.old + 1 }
     ensures capacity { vec_capacity out.old ≤ vec_capacity out.new }
 {
-    let Ok(()) = out.push(Action::Note(note)) else {
-        unreachable!()
-    };
+    out.push_reserved(Action::Note(note));
 }
