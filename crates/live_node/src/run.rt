@@ -66,14 +66,16 @@ pub fn run_node<K: Sink, C: Clock, B: Ports>(
     // Its clause: what a scenario that was read says is fit to be run.
     scenario.is_fit();
     let start = clock.now();
-    match open(alloc, scenario, start) {
-        Ok((mut live, mut room)) => {
-            run_opened(
-                alloc, scenario, start, turns, &mut live, board, clock, &mut room, sink,
-            )
-        }
-        Err(NoMemory) => Err(RunStop::NoMemory),
-    }
+    // The node comes last: it has the most parts, and is taken apart where memory is refused behind it.
+    let Ok(mut room) = room_for_a_frame(alloc) else {
+        return Err(RunStop::NoMemory);
+    };
+    let Ok(mut live) = open(alloc, scenario, start) else {
+        return Err(RunStop::NoMemory);
+    };
+    run_opened(
+        alloc, scenario, start, turns, &mut live, board, clock, &mut room, sink,
+    )
 }
 
 /// Runs a node from its start on, and writes the last line.
@@ -106,20 +108,25 @@ fn run_opened<K: Sink, C: Clock, B: Ports>(
     }
 }
 
-/// The node of the system of a scenario at its start, and room for a frame that is looked at.
-fn open(alloc: Global, scenario: &Scenario, start: u64) -> Result<(LiveNode, Vec<u8>), NoMemory>
+/// Room for a frame that is looked at.
+fn room_for_a_frame(alloc: Global) -> Result<Vec<u8>, NoMemory>
+    ensures { IfOk result (λ room. length room.items ≡ 70000) }
+{
+    Ok(vec![in alloc; 0u8; LONGEST_FRAME]?)
+}
+
+/// The node of the system of a scenario at its start.
+fn open(alloc: Global, scenario: &Scenario, start: u64) -> Result<LiveNode, NoMemory>
     requires one { length scenario.now.systems ≡ 1 }
     requires early { start < 2 ^ 62 }
-    ensures stands { IfOk result (λ opened. (system : SystemConfiguration) (ports : List PortState) → scenario.now.systems ≡ system ∷ []
-        → Stands opened.0 ports (first_node scenario.now.limits system start (attached_of ports))) }
-    ensures moment { IfOk result (λ opened. (clnp_systems.entity_of opened.0.system).moment ≡ start) }
-    ensures room { IfOk result (λ opened. length opened.1.items ≡ 70000) }
+    ensures stands { IfOk result (λ live. (system : SystemConfiguration) (ports : List PortState) → scenario.now.systems ≡ system ∷ []
+        → Stands live ports (first_node scenario.now.limits system start (attached_of ports))) }
+    ensures moment { IfOk result (λ live. (clnp_systems.entity_of live.system).moment ≡ start) }
 {
     // Its clause: the limits are within their ranges, as a system asks at its start.
     scenario.is_fit();
     let live = LiveNode::new(alloc, &scenario.systems()[0], scenario.limits(), start)?;
-    let room = vec![in alloc; 0u8; LONGEST_FRAME]?;
-    Ok((live, room))
+    Ok(live)
 }
 
 /// Takes so many turns, from the first of all events on; no more than the one behind which no link is attached.
