@@ -1,2 +1,7 @@
-pub use Rattle.end_system.proofs.LocalEntity
+pub use Rattle.system_entity.proofs.LocalEntity
+pub mod HostPassing
+pub mod RouterPassing
+pub mod Going
+pub mod Better
+pub mod Behind
 pub mod Given

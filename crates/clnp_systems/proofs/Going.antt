@@ -1,0 +1,255 @@
+-- How a packet goes on: its way, its port, its pieces.
+use Rattle.std.proofs.Common.{◌≡◌, ◌∙◌, refl, sym, ap, subst, ℕ, ◌+◌, ◌-◌, ◌≤◌, Bool, true, false, Option, None, Some, Ok, Err, inr, List, [], ◌∷◌, ◌++◌, map, length, take, drop, if◌then◌else◌, arith, length-append, append_assoc}
+use Rattle.std.specs.Prelude.{Result, ◌&&◌, not, is_some, nat_le, slice_get}
+use Rattle.std.proofs.Math.Seq.{drop-append_seam, take-append_seam}
+use Rattle.clnp_machine.specs.EsisTables.declared.fact.Neighbour.{Neighbour}
+use Rattle.clnp_machine.specs.ClnpOptions.Reasons.{reason_code}
+use Rattle.clnp_machine.specs.ClnpOptions.declared.reasons.Reason.TheVariants.{LifetimeExpiredInTransit, PathNotAcceptable, SegmentationNotPermitted}
+use Rattle.clnp_machine.specs.ClnpOptions.Edits.{is_complete, target_of}
+use Rattle.clnp_machine.specs.ClnpOptions.Parameter.{Parameter}
+use Rattle.clnp_machine.specs.ClnpViews.Extent.{Extent, part, seen, whole}
+use Rattle.clnp_machine.specs.PduHeader.Headers.{SpellsHeader, with_lifetime, with_options}
+use Rattle.clnp_machine.specs.PduHeader.Spelling.{header, segment_length}
+use Rattle.clnp_machine.specs.PduHeader.Value.{PduValue}
+use Rattle.clnp_machine.specs.Segmenter.declared.cuts.Cut.{Cut}
+use Rattle.clnp_machine.specs.Segmenter.declared.cuts.NotPermitted.{NotPermitted}
+use Rattle.clnp_machine.specs.Segmenter.Cut as segmenter
+use Rattle.clnp_machine.specs.Segmenter.Cut.{Piece, given}
+use Rattle.clnp_machine.specs.ClnpPlan.Configuration.{IsPort}
+use Rattle.clnp_machine.specs.ClnpPlan.declared.config.PortConfig.{PortConfig}
+use Rattle.clnp_machine.specs.Content.{Labelled}
+use Rattle.clnp_machine.specs.Given.{GiveAll, IsSentOnFor}
+use Rattle.clnp_machine.specs.Step.{discards, ends_at, forwarded, goes_on, goes_on_by, goes_on_way, goes_on_with, hop_by, is_named, loss_at, no_way_to, options_behind, pieces_go_on, towards, transmissions, way_of}
+use Rattle.clnp_machine.specs.declared.way.Hop.{Hop}
+use Rattle.clnp_machine.specs.declared.way.Way.{Way}
+use Rattle.clnp_machine.specs.System.{Effect, SystemState, Transmits}
+use Rattle.clnp_machine.specs.Unit.{IsCarriable, Packet, cut, value_of}
+use Rattle.clnp_machine.proofs.Pieces.{AreBoth, AreThese, IsThis, cut_both}
+use Rattle.system_entity.specs.LocalEntity.Sending.{piece_frame, transmission}
+use Rattle.system_entity.proofs.LocalEntity.Sent.{CutsSay, IsAnswer, piece_octets}
+use Rattle.system_entity.specs.Comes.{HasValue}
+use Rattle.system_entity.specs.declared.passing.Passing.{Passing}
+use Rattle.clnp_systems.specs.Router.Onward.{GoesOn, life_left}
+pub use Rattle.clnp_machine.proofs.Given.{appends_whatever_came, appends_both, appends_none}
+
+-- ---- the way, and its port
+
+-- the source route is complete and names another system here
+pub off_route : (s : SystemState) (came : Neighbour) (p : Packet) (following : List ℕ) (test : Bool) → test ≡ true
+    → test ≡ (is_complete p.options && not (is_named s (target_of p.options)))
+    → goes_on s came p following ≡ discards s p following (reason_code PathNotAcceptable)
+off_route s came p following test off is =
+    ap (λ (b : Bool). if b then discards s p following (reason_code PathNotAcceptable)
+    else goes_on_with s came p following (options_behind s p.options)) (sym is ∙ off)
+
+-- or it goes on with the options behind the router
+pub on_route : (s : SystemState) (came : Neighbour) (p : Packet) (following : List ℕ) (test : Bool) → test ≡ false
+    → test ≡ (is_complete p.options && not (is_named s (target_of p.options)))
+    → goes_on_with s came p following (options_behind s p.options) ≡ goes_on s came p following
+on_route s came p following test on is =
+    ap (λ (b : Bool). if b then discards s p following (reason_code PathNotAcceptable)
+    else goes_on_with s came p following (options_behind s p.options)) (sym on ∙ is)
+
+-- it is sent towards the title, or towards its destination
+pub whither_is : (p : Packet) (options : List Parameter) (passing : Passing) → HasValue passing (value_of p)
+    → towards passing.to (target_of options) ≡ towards p.unit.destination (target_of options)
+whither_is p options passing has = ap (λ (to : List ℕ). towards to (target_of options)) (sym has.destination)
+
+module _ (s : SystemState) (came : Neighbour) (p : Packet) (following : List ℕ) (options : List Parameter) (to : List ℕ)
+    (towards_it : to ≡ towards p.unit.destination (target_of options)) where
+  abbrev whither : List ℕ
+  whither = towards p.unit.destination (target_of options)
+
+  abbrev on_its_way : Option Way → Effect
+  on_its_way way = goes_on_way s came p following options way
+
+  -- the way that the code finds
+  way_is : (found : Option Way) → found ≡ way_of s to → on_its_way found ≡ goes_on_with s came p following options
+  way_is found is = ap on_its_way (is ∙ ap (λ (there : List ℕ). way_of s there) towards_it)
+
+  -- no way is known
+  pub no_way : (found : Option Way) (reason : ℕ) → found ≡ None → found ≡ way_of s to → reason ≡ no_way_to (target_of options)
+      → goes_on_with s came p following options ≡ discards s p following reason
+  no_way found reason none is why =
+      sym (way_is found is) ∙ ap (λ (o : Option Way). on_its_way o) none
+      ∙ ap (λ (n : ℕ). discards s p following n) (sym why)
+
+  module _ (found : Option Way) (way : Way) (some : found ≡ Some way) (is : found ≡ way_of s to) where
+    abbrev by_test : Bool → Effect
+    by_test off =
+        if off then discards s p following (reason_code PathNotAcceptable)
+        else goes_on_by s came p following options way (slice_get s.attached.ports way.neighbour.port)
+
+    by_way : by_test (is_complete options && not (ends_at whither way.title)) ≡ goes_on_with s came p following options
+    by_way = ap (λ (o : Option Way). on_its_way o) (sym some) ∙ way_is found is
+
+    module _ (barred : Bool) (decided : barred ≡ (is_complete options && not (ends_at to way.title))) where
+      tested : barred ≡ (is_complete options && not (ends_at whither way.title))
+      tested = decided ∙ ap (λ (a : List ℕ). is_complete options && not (ends_at a way.title)) towards_it
+
+      -- it is that of another system than a complete source route allows
+      pub by_another : barred ≡ true → goes_on_with s came p following options ≡ discards s p following (reason_code PathNotAcceptable)
+      by_another off = sym by_way ∙ ap by_test (sym tested ∙ off)
+
+      -- it is by this port, if it is there
+      pub by_its_port : (ports : List PortConfig) (port : Option PortConfig) → barred ≡ false → ports ≡ s.attached.ports
+          → slice_get ports way.neighbour.port ≡ port
+          → goes_on_by s came p following options way port ≡ goes_on_with s came p following options
+      by_its_port ports port on same at =
+          ap (λ (o : Option PortConfig). goes_on_by s came p following options way o) (sym at)
+          ∙ ap (λ (ps : List PortConfig). goes_on_by s came p following options way (slice_get ps way.neighbour.port)) same
+          ∙ ap by_test (sym on ∙ tested) ∙ by_way
+
+-- ---- the lifetime
+
+-- a lifetime that is left isn't over, and it is lower by the loss
+left_is : (over : Bool) (lower life : ℕ) → (if over then None else Some lower) ≡ Some life → (over ≡ false) × (lower ≡ life)
+left_is true lower life e = absurd (cc)
+left_is false lower life e = (refl, cc)
+
+none_is : (over : Bool) (lower : ℕ) → (let none : Option ℕ = None in if over then none else Some lower) ≡ None → over ≡ true
+none_is true lower e = refl
+none_is false lower e = absurd (cc)
+
+-- ---- the pieces
+
+module _ (came : Packet) (following : List ℕ) (q : Packet) (unit : q.unit ≡ came.unit) (body : Extent) (hop : Hop)
+    (shown : seen body ≡ (value_of q).body) (count : length (seen body) ≡ body.len) where
+  piece_goes : (piece : Piece) (packet : Packet) → IsThis q piece packet
+      → IsSentOnFor (Labelled came following) (piece_frame true hop body (given piece)) hop.port hop.target packet
+  piece_goes piece packet this =
+      record {
+        port_is = refl;
+        target_is = refl;
+        octets = piece_octets q piece packet body true hop this shown count;
+        forwarded = refl;
+        carriable = this.carriable;
+        unit = sym (this.unit_is ∙ unit);
+      }
+
+  pieces_go : (moment : ℕ) (pieces : List Piece) (packets : List Packet) → AreThese q pieces packets
+      → GiveAll moment (Some (Labelled came following)) (map (transmission true hop body) (map given pieces))
+      (map (λ packet. Transmits hop.port hop.target packet) packets)
+  pieces_go moment [] [] these = tt
+  pieces_go moment (piece ∷ others) (packet ∷ packets) these = (inr (piece_goes piece packet these.0), pieces_go moment others packets these.1)
+  pieces_go moment [] (packet ∷ packets) these = absurd these
+  pieces_go moment (piece ∷ others) [] these = absurd these
+
+module _ (s : SystemState) (came : Neighbour) (p : Packet) (following : List ℕ) (way : Way) (towards_title : Bool)
+    (told : towards_title ≡ is_some (target_of (options_behind s p.options))) (q : Packet) (unit : q.unit ≡ p.unit)
+    (same : (value_of q).body ≡ (value_of p).body) (octets : ℕ) (result : Result (List Cut) NotPermitted) where
+  both_go : (pieces : Option (List Piece)) (packets : Option (List Packet)) (cuts : List Cut) → AreBoth q pieces packets → IsAnswer octets pieces result
+      → result ≡ Ok cuts → GoesOn (record { way = way; towards_title = towards_title; cuts = cuts }) s came p following
+      (pieces_go_on s came p following (options_behind s p.options) way packets)
+  both_go None None cuts both answer ok = absurd (cc)
+  both_go (Some pieces) (Some packets) cuts both answer ok =
+      let are : map given pieces ≡ cuts = cc in
+      record {
+        after = refl;
+        pieces = transmissions (hop_by way) (Some packets);
+        outputs = refl;
+        towards_title = told;
+        given = λ body shown count.
+            subst (λ (list : List Cut). GiveAll s.moment (Some (Labelled p following)) (map (transmission true (hop_by way) body) list)
+            (transmissions (hop_by way) (Some packets))) are
+            (pieces_go p following q unit body (hop_by way) (shown ∙ sym same) count s.moment pieces packets both);
+      }
+  both_go None (Some packets) cuts both answer ok = absurd both
+  both_go (Some pieces) None cuts both answer ok = absurd both
+
+  none_goes : (pieces : Option (List Piece)) (packets : Option (List Packet)) (refused : NotPermitted) → AreBoth q pieces packets
+      → IsAnswer octets pieces result → result ≡ Err refused
+      → pieces_go_on s came p following (options_behind s p.options) way packets
+      ≡ discards s p following (reason_code SegmentationNotPermitted)
+  none_goes None None refused both answer err = refl
+  none_goes (Some pieces) (Some packets) refused both answer err = absurd (cc)
+  none_goes None (Some packets) refused both answer err = absurd both
+  none_goes (Some pieces) None refused both answer err = absurd both
+
+-- ---- what comes of it by a port
+
+module _ (s : SystemState) (came : Neighbour) (p : Packet) (following : List ℕ) (way : Way) (port : PortConfig) where
+  abbrev behind : List Parameter
+  behind = options_behind s p.options
+
+  abbrev lowered : Packet
+  lowered = forwarded p (loss_at port) behind
+
+  abbrev outcome : Effect
+  outcome = goes_on_by s came p following behind way (Some port)
+
+  abbrev by_life : Bool → Effect
+  by_life over =
+      if over then discards s p following (reason_code LifetimeExpiredInTransit)
+      else pieces_go_on s came p following behind way (cut lowered port.mtu)
+
+  -- its lifetime ends
+  pub ends : (passing : Passing) (left : Option ℕ) → HasValue passing (value_of p) → left ≡ life_left passing.life port → left ≡ None
+      → outcome ≡ discards s p following (reason_code LifetimeExpiredInTransit)
+  ends passing left has told none =
+      ap (λ (n : ℕ). by_life (nat_le n (loss_at port))) has.lifetime
+      ∙ ap by_life (none_is (nat_le passing.life (loss_at port)) (passing.life - loss_at port) (sym told ∙ none))
+
+  module _ (passing : Passing) (left : Option ℕ) (life : ℕ) (changed head : List ℕ) (target : Option (List ℕ)) (result : Result (List Cut) NotPermitted)
+      (is : IsPort port) (carriable : IsCarriable p) (has : HasValue passing (value_of p)) (told : left ≡ life_left passing.life port) (some : left ≡ Some life)
+      (edited : SpellsHeader (with_options behind (value_of p)) changed)
+      (leads : (v : PduValue) → SpellsHeader v changed → target ≡ target_of v.options)
+      (spelled : (v : PduValue) → SpellsHeader v changed → SpellsHeader (with_lifetime life v) head) (say : CutsSay head passing.len port.mtu result)
+      (valued : value_of lowered ≡ with_options behind (with_lifetime (p.lifetime - loss_at port) (value_of p))) where
+    lives : (nat_le passing.life (loss_at port) ≡ false) × (passing.life - loss_at port ≡ life)
+    lives = left_is (nat_le passing.life (loss_at port)) (passing.life - loss_at port) life (sym told ∙ some)
+
+    alive : outcome ≡ pieces_go_on s came p following behind way (cut lowered port.mtu)
+    alive = ap (λ (n : ℕ). by_life (nat_le n (loss_at port))) has.lifetime ∙ ap by_life lives.0
+
+    spells : SpellsHeader (value_of lowered) head
+    spells =
+        subst (λ (v : PduValue). SpellsHeader v head) (sym valued)
+        (subst (λ (n : ℕ). SpellsHeader (with_lifetime (n - loss_at port) (with_options behind (value_of p))) head) (sym has.lifetime)
+        (subst (λ (n : ℕ). SpellsHeader (with_lifetime n (with_options behind (value_of p))) head) (sym lives.1)
+        (spelled (with_options behind (value_of p)) edited)))
+
+    -- what the code's cutting answers
+    answer : IsAnswer (segment_length (value_of lowered)) (segmenter.cut (value_of lowered) port.mtu) result
+    answer = say (value_of lowered) spells has.len
+
+    both : AreBoth lowered (segmenter.cut (value_of lowered) port.mtu) (cut lowered port.mtu)
+    both = cut_both lowered port.mtu (record { pdu = spells.pdu; from = carriable.from; to = carriable.to }) is.mtu.least
+
+    towards_title_is : is_some target ≡ is_some (target_of behind)
+    towards_title_is = ap is_some (leads (with_options behind (value_of p)) edited)
+
+    -- its pieces go on
+    pub goes : (towards_title : Bool) → towards_title ≡ is_some target → (cuts : List Cut) → result ≡ Ok cuts
+        → GoesOn (record { way = way; towards_title = towards_title; cuts = cuts }) s came p following outcome
+    goes towards_title titled cuts ok =
+        subst (λ (effect : Effect). GoesOn (record { way = way; towards_title = towards_title; cuts = cuts }) s came p following effect) (sym alive)
+        (both_go s came p following way towards_title (titled ∙ towards_title_is) lowered refl refl (segment_length (value_of lowered)) result
+        (segmenter.cut (value_of lowered) port.mtu) (cut lowered port.mtu) cuts both answer ok)
+
+    -- it may not be cut
+    pub stays : (refused : NotPermitted) → result ≡ Err refused → outcome ≡ discards s p following (reason_code SegmentationNotPermitted)
+    stays refused err =
+        alive ∙ none_goes s came p following way (is_some target) towards_title_is lowered refl refl (segment_length (value_of lowered)) result
+        (segmenter.cut (value_of lowered) port.mtu) (cut lowered port.mtu) refused both answer err
+
+-- ---- the frame
+
+-- the data behind the header in a frame
+pub data_in : (frame head following : List ℕ) (v : PduValue) (len : ℕ) → frame ≡ (header v ++ v.body) ++ following → head ≡ header v → length v.body ≡ len
+    → seen (part (length head) len (whole frame)) ≡ v.body
+data_in frame head following v len split is count =
+    let front : length head ≡ length (header v) = ap length is in
+    let at : 0 + length head ≡ length (header v) = omega arith in
+    ap (λ (n : ℕ). take len (drop n frame)) at
+    ∙ ap (λ (f : List ℕ). take len (drop (length (header v)) f)) (split ∙ append_assoc (header v) v.body following)
+    ∙ ap (λ (f : List ℕ). take len f) (drop-append_seam (header v) (v.body ++ following))
+    ∙ ap (λ (n : ℕ). take n (v.body ++ following)) (sym count) ∙ take-append_seam v.body following
+
+pub fits : (frame head following : List ℕ) (v : PduValue) (len : ℕ) → frame ≡ (header v ++ v.body) ++ following → head ≡ header v → length v.body ≡ len
+    → length head + len ≤ length frame
+fits frame head following v len split is count =
+    let all : length frame ≡ length (header v) + length v.body + length following =
+    ap length split ∙ length-append (header v ++ v.body) following ∙ ap (λ (n : ℕ). n + length following) (length-append (header v) v.body) in
+    let front : length head ≡ length (header v) = ap length is in
+    omega arith

@@ -1,0 +1,8 @@
+-- They are those of its entity.
+use Rattle.std.proofs.Common.{sym, subst}
+use Rattle.system_entity.specs.Stands as entity
+use Rattle.clnp_systems.specs.EndSystem.State.{HostState}
+use Rattle.clnp_systems.proofs.host.EndSystem.ports.Goals as goal
+
+pub returns-clause-stands : goal.returns-clause-stands
+returns-clause-stands c = λ s h. c.ports.ensures.stands s s.moment (subst (λ (host : HostState). entity.Stands host.entity s) (sym c.self.view_is) h).parts

@@ -1,0 +1,8 @@
+-- The port of its entity takes other frames.
+use Rattle.std.proofs.Common.{sym, subst}
+use Rattle.system_entity.specs.Stands as entity
+use Rattle.clnp_systems.specs.EndSystem.State.{HostState}
+use Rattle.clnp_systems.proofs.host.EndSystem.set_mtu.Goals as goal
+
+pub returns-clause-stands : goal.returns-clause-stands
+returns-clause-stands c = λ s h. c.set_mtu.ensures.stands s (subst (λ (host : HostState). entity.Stands host.entity s) (sym c.self.view_is) h)

@@ -1,0 +1,3 @@
+-- Hosts: end systems with one port.
+pub mod State
+pub mod Stands

@@ -1,0 +1,4 @@
+-- Routers: intermediate systems.
+pub mod State
+pub mod Stands
+pub mod Onward

@@ -1,2 +1,0 @@
-pub use Rattle.system_entity.proofs.LocalEntity
-pub mod Passing

@@ -1,9 +1,0 @@
--- Its entity is congested, or no more.
-use Rattle.std.proofs.Common.{sym, subst}
-use Rattle.system_entity.specs.Stands as entity
-use Rattle.end_system.specs.State.{HostState}
-use Rattle.end_system.proofs.host.EndSystem.congest.Goals as goal
-
-pub returns-clause-stands : goal.returns-clause-stands
-returns-clause-stands c = λ s h.
-    c.congest.ensures.stands s (subst (λ (host : HostState). entity.Stands host.entity s) (sym c.self.view_is) h)

@@ -1,4 +1,0 @@
-pub mod Passing
-pub mod Going
-pub mod Better
-pub mod Behind

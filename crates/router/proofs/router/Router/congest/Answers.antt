@@ -1,9 +1,0 @@
--- Its entity is congested, or no more.
-use Rattle.std.proofs.Common.{sym, subst}
-use Rattle.system_entity.specs.Stands as entity
-use Rattle.router.specs.State.{RouterState}
-use Rattle.router.proofs.router.Router.congest.Goals as goal
-
-pub returns-clause-stands : goal.returns-clause-stands
-returns-clause-stands c = λ s h.
-    c.congest.ensures.stands s (subst (λ (router : RouterState). entity.Stands router.entity s) (sym c.self.view_is) h)

@@ -1,9 +1,0 @@
--- Its entity is restarted.
-use Rattle.std.proofs.Common.{sym, subst}
-use Rattle.system_entity.specs.Stands as entity
-use Rattle.router.specs.State.{RouterState}
-use Rattle.router.proofs.router.Router.restart.Goals as goal
-
-pub returns-clause-stands : goal.returns-clause-stands
-returns-clause-stands c = λ s h.
-    c.restart.ensures.stands s (subst (λ (router : RouterState). entity.Stands router.entity s) (sym c.self.view_is) h)
