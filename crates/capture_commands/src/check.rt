@@ -18,7 +18,7 @@ use command_base::{
 use std::alloc::Global;
 
 /// How many vectors passed and how many failed, at most 16,777,216 together.
-#[derive(Clone, Copy, PartialEq, Eq)]
+#[derive(Clone, Copy)]
 pub struct Tally {
     pub passed: u32,
     pub failed: u32,

@@ -4,7 +4,7 @@ use captures::base::NoMemory;
 use std::alloc::AllocError;
 
 /// Why a line isn't packed.
-#[derive(Clone, Copy, Debug, PartialEq, Eq)]
+#[derive(Clone, Copy, PartialEq, Eq)]
 pub enum PackRefusal {
     /// The line is that of a refused frame, which has no value, or of one of neither protocol.
     NotPackable,

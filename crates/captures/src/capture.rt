@@ -10,7 +10,7 @@ use esis_pdus::base::{DigitValues, HexFault, is_skipped};
 pub const MOST_OCTETS: usize = 70_000;
 
 /// Why a line of a capture isn't read.
-#[derive(Clone, Copy, Debug, PartialEq, Eq)]
+#[derive(Clone, Copy, PartialEq, Eq)]
 pub enum LineRefusal {
     /// The line isn't made of two hexadecimal digits for each octet.
     Syntax,

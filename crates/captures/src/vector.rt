@@ -12,7 +12,7 @@ use esis_pdus::base::{DigitValues, NoMemory, is_skipped, push, push_decimal};
 use std::alloc::Global;
 
 /// The verdict on a line of a file of vectors.
-#[derive(Clone, Copy, Debug, PartialEq, Eq)]
+#[derive(Clone, Copy, PartialEq, Eq)]
 pub enum Verdict {
     /// The line is to be skipped.
     Skip,

@@ -8,7 +8,7 @@ use std::marker::Model;
 
 /// Up to `MOST` octets in order, at most 255, which contracts see as their list. The cells past them are 0, so that one
 /// list of octets is one value.
-#[derive(Clone, Copy, Debug)]
+#[derive(Clone, Copy)]
 pub struct InlineOctets<const MOST: usize> {
     len: u8,
     cells: [u8; MOST],

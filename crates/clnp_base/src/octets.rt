@@ -20,7 +20,7 @@ impl<T: Drop> From<AllocFailed<T>> for NoMemory {
 }
 
 /// Octets in order, which contracts see as their list.
-#[derive(Debug, Drop)]
+#[derive(Drop)]
 pub struct Octets {
     octets: Vec<u8>,
 }

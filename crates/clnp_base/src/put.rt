@@ -64,7 +64,7 @@ pub fn push_number(label: &[u8], number: u64, out: &mut Vec<u8>) -> Result<(), N
 }
 
 /// Why no octets were read of hexadecimal digits.
-#[derive(Clone, Copy, Debug, PartialEq, Eq)]
+#[derive(Clone, Copy, PartialEq, Eq)]
 pub enum HexFault {
     /// The characters are odd in number.
     OddLength,

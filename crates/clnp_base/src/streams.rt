@@ -57,7 +57,7 @@ pub trait Sink {
 }
 
 /// Why [`read_all`] stopped before the end of the input.
-#[derive(Clone, Copy, Debug, PartialEq, Eq)]
+#[derive(Clone, Copy, PartialEq, Eq)]
 pub enum ReadStop {
     /// The source failed.
     Failed,

@@ -6,7 +6,7 @@ use clnp_plan::hearing::Neighbour;
 use clnp_plan::nsaps::{Address, Target};
 
 /// Where a PDU goes next: the number of a port, and whom a frame is for on its subnetwork.
-#[derive(Clone, Copy, PartialEq, Eq)]
+#[derive(Clone, Copy)]
 pub struct Hop {
     pub port: u8,
     pub target: Target,

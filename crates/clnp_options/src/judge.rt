@@ -13,7 +13,7 @@ use crate::reasons::Reason;
 
 /// Why an options part is refused: the least broken rule, 14 to 20, the reason for discard that it
 /// gives (ISO/IEC 8473, section 7.9.5), and the place in the header, from 1, of the octet at fault.
-#[derive(Clone, Copy, PartialEq, Eq, Debug)]
+#[derive(Clone, Copy, Debug)]
 pub struct OptionRefusal {
     pub rule: u8,
     pub reason: u8,

@@ -12,7 +12,7 @@ use crate::read::first_option;
 use std::marker::Model;
 
 /// An option by its kind (ISO/IEC 8473, section 7.5). Octets are borrowed from the part.
-#[derive(Clone, Copy, PartialEq, Eq)]
+#[derive(Clone, Copy)]
 pub enum OptionRef<'a> {
     /// Any octets.
     Padding(&'a [u8]),

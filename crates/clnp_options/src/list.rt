@@ -16,13 +16,13 @@ const ROOM: usize = 254;
 
 /// An option that a list has no room for: the list would have `octets` octets, above 254. (A value
 /// above 252 octets passes that in any list.)
-#[derive(Clone, Copy, PartialEq, Eq)]
+#[derive(Clone, Copy)]
 pub struct OptionTooLong {
     pub octets: usize,
 }
 
 /// A list of options as the octets that spell it, 0 to 254, that breaks none of the rules G14 to G19.
-#[derive(Clone, Copy, PartialEq, Eq)]
+#[derive(Clone, Copy)]
 pub struct OptionList {
     octets: InlineOctets<ROOM>,
 }

@@ -3,7 +3,7 @@ ghost use Rattle.std.specs.Prelude.{◌≡◌};
 ghost use Rattle.clnp_options.specs.Reasons.{reason_code};
 
 /// Why a PDU is discarded, as an error report tells it (ISO/IEC 8473, section 7.9.5).
-#[derive(Clone, Copy, PartialEq, Eq)]
+#[derive(Clone, Copy)]
 pub enum Reason {
     /// Not specified.
     NotSpecified = 0x00,

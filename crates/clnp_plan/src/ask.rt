@@ -15,7 +15,7 @@ pub struct Ask {
 }
 
 /// Why a unit isn't made.
-#[derive(Clone, Copy, Debug, PartialEq, Eq)]
+#[derive(Clone, Copy)]
 pub enum SendRefusal {
     /// The source isn't an address of the system.
     NotMine,

@@ -9,7 +9,7 @@ use std::alloc::Global;
 use std::marker::Model;
 
 /// What a system is.
-#[derive(Clone, Copy, Debug, PartialEq, Eq)]
+#[derive(Clone, Copy, PartialEq, Eq)]
 pub enum Role {
     /// An end system.
     Host,
@@ -18,7 +18,7 @@ pub enum Role {
 }
 
 /// How long things last in a network, in ticks of 500 ms.
-#[derive(Clone, Copy, Debug, PartialEq, Eq)]
+#[derive(Clone, Copy, PartialEq, Eq)]
 pub struct Limits {
     /// How long after the making of its unit a copy of a frame may still be given: 1 to 4,096.
     pub age: u16,
@@ -33,7 +33,7 @@ pub struct Limits {
 /// A system's port: the subnetwork's place among the declarations, from 0, the system's address
 /// there, how much of its lifetime a PDU loses that a router sends there (at least 1 tick), and the most octets that a
 /// frame on it may have (at least 512).
-#[derive(Clone, Copy, Debug, PartialEq, Eq)]
+#[derive(Clone, Copy, PartialEq, Eq)]
 pub struct PortConfig {
     pub subnet: u8,
     pub snpa: Snpa,
@@ -42,7 +42,7 @@ pub struct PortConfig {
 }
 
 /// The settings of a system.
-#[derive(Clone, Copy, Debug, PartialEq, Eq)]
+#[derive(Clone, Copy, PartialEq, Eq)]
 pub struct Settings {
     /// How often it says hello, in seconds, 0 to 600; 0 is never (ISO 9542, section 6.2).
     pub hello: u16,

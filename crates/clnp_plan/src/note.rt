@@ -4,7 +4,7 @@ use pdu_header::base::Octets;
 use pdu_header::nsaps::{Address, Prefix, Snpa};
 
 /// Why a unit wasn't made.
-#[derive(Clone, Copy, PartialEq, Eq)]
+#[derive(Clone, Copy)]
 pub enum Why {
     /// The source isn't an address of the system.
     NotMine,

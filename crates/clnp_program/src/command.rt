@@ -13,7 +13,7 @@ const MOST_TURNS: u64 = 1_000_000_000;
 const MOST_LINKS: usize = 8;
 
 /// A command of the program. The name of one that reads an input stands alone on the command line.
-#[derive(Clone, Copy, PartialEq, Eq)]
+#[derive(Clone, Copy)]
 pub enum Command {
     /// One that writes nothing before it has read its whole input, if it reads one.
     Whole(WholeCommand),
@@ -24,7 +24,7 @@ pub enum Command {
 }
 
 /// A command that writes nothing before it has read its whole input, if it reads one.
-#[derive(Clone, Copy, PartialEq, Eq)]
+#[derive(Clone, Copy)]
 pub enum WholeCommand {
     /// Writes the journal of a scenario.
     Sim,
@@ -47,7 +47,7 @@ pub enum WholeCommand {
 }
 
 /// A command that works while it reads.
-#[derive(Clone, Copy, PartialEq, Eq)]
+#[derive(Clone, Copy)]
 pub enum StreamedCommand {
     /// Shows the records of an Ethernet capture.
     PcapShow,

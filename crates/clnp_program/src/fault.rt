@@ -27,7 +27,7 @@ clnp: a file in the pcapng form is turned into one by: tshark -r FILE -F pcap -w
 ";
 
 /// Why a call of the program didn't do all that was asked.
-#[derive(Clone, Copy, Debug, PartialEq, Eq, Error)]
+#[derive(Clone, Copy, Debug, Error)]
 pub enum Fault {
     /// The words are no command, first at this place, from 0.
     #[error("bad words at {at}")]

@@ -10,7 +10,7 @@ const MOST: usize = 254;
 /// 0 to 254 octets, as of a header.
 ///
 /// A contract sees it as the list of its octets.
-#[derive(Clone, Copy, PartialEq, Eq)]
+#[derive(Clone, Copy)]
 pub struct Head {
     octets: InlineOctets<MOST>,
 }

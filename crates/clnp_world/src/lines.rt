@@ -82,7 +82,7 @@ pub(crate) trait LineSink {
 }
 
 /// How many lines of some kinds a journal has.
-#[derive(Clone, Copy, Debug, PartialEq, Eq)]
+#[derive(Clone, Copy, PartialEq, Eq)]
 pub struct Counts {
     /// Units handed up.
     pub got: u64,

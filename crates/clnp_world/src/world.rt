@@ -28,7 +28,7 @@ use std::mem;
 const MOST_WEIGHT: u64 = 268_435_456;
 
 /// Why a move isn't made.
-#[derive(Clone, Copy, Debug, PartialEq, Eq)]
+#[derive(Clone, Copy)]
 pub enum WorldRefusal {
     /// The copies weigh too much: so many octets.
     WorldFull { octets: u64 },

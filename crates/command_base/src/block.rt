@@ -11,7 +11,7 @@ use clnp_base::{Failed, Sink, write_all};
 const BLOCK: usize = 65_536;
 
 /// What is wrong with a line.
-#[derive(Clone, Copy, PartialEq, Eq)]
+#[derive(Clone, Copy)]
 pub enum LineFault {
     /// It is bad, with the code of what it breaks.
     Bad { code: u8 },
@@ -20,7 +20,7 @@ pub enum LineFault {
 }
 
 /// Why a command stopped at a line.
-#[derive(Clone, Copy, PartialEq, Eq)]
+#[derive(Clone, Copy)]
 pub enum LineStop {
     /// The line is bad, with the code of what it breaks.
     BadLine { code: u8 },

@@ -13,7 +13,7 @@ use pdu_header::options::{OptionList, OptionRef};
 use pdu_header::{Header, Kind, Parts, ReportTo, reportable};
 
 /// The error report of a frame's discard.
-#[derive(Clone, Copy, PartialEq, Eq)]
+#[derive(Clone, Copy)]
 pub struct MadeReport {
     /// Its destination: the discarded PDU's source.
     pub to: Address,

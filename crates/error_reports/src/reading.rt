@@ -26,7 +26,7 @@ pub struct Told<'a> {
 }
 
 /// A PDU that is no error report.
-#[derive(Clone, Copy, PartialEq, Eq)]
+#[derive(Clone, Copy)]
 pub struct NotReport;
 
 /// What a PDU, as `decode` finds it, tells of a discard (ISO 8473, section 7.9).

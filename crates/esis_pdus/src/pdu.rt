@@ -40,7 +40,7 @@ pub struct EsisPdu<'a> {
 }
 
 /// Why a frame is refused.
-#[derive(Clone, Copy, Debug, PartialEq, Eq)]
+#[derive(Clone, Copy)]
 pub enum EsisRefusal {
     /// It doesn't begin with 0x82, the identifier of this protocol.
     NotEsis,

@@ -2,7 +2,7 @@
 use nsap::{Address, Snpa};
 
 /// The most keys that each table keeps at a time.
-#[derive(Clone, Copy, PartialEq, Eq)]
+#[derive(Clone, Copy)]
 pub struct EsisLimits {
     /// End systems.
     pub neighbours: u16,
@@ -13,7 +13,7 @@ pub struct EsisLimits {
 }
 
 /// A neighbour: where a system is reached.
-#[derive(Clone, Copy, Debug, PartialEq, Eq)]
+#[derive(Clone, Copy, PartialEq, Eq)]
 pub struct Neighbour {
     /// The number of the port of one's own.
     pub port: u8,
@@ -22,7 +22,7 @@ pub struct Neighbour {
 }
 
 /// Which table a key stands in.
-#[derive(Clone, Copy, Debug, PartialEq, Eq)]
+#[derive(Clone, Copy, PartialEq, Eq)]
 pub enum TableKind {
     /// End systems by their NSAP addresses: the configuration information of ESHs (ISO 9542, section 6.3).
     Es,
@@ -33,7 +33,7 @@ pub enum TableKind {
 }
 
 /// What comes of a hearing.
-#[derive(Clone, Copy, Debug, PartialEq, Eq)]
+#[derive(Clone, Copy, PartialEq, Eq)]
 pub enum Heard {
     /// The key is kept from now on.
     New,
@@ -46,7 +46,7 @@ pub enum Heard {
 }
 
 /// A key whose holding time has ended.
-#[derive(Clone, Copy, Debug, PartialEq, Eq)]
+#[derive(Clone, Copy, PartialEq, Eq)]
 pub struct Gone {
     pub table: TableKind,
     pub key: Address,

@@ -46,7 +46,7 @@ pub fn reassemble<K: Sink>(alloc: Global, text: &[u8], sink: &mut K) -> Status
 }
 
 /// Why the writing of the lines stopped.
-#[derive(Clone, Copy, PartialEq, Eq)]
+#[derive(Clone, Copy)]
 enum Stop {
     WriteFault,
     NoMemory,

@@ -27,7 +27,7 @@ use std::alloc::Global;
 use std::marker::Model;
 
 /// What comes of a PDU.
-#[derive(Clone, Copy, PartialEq, Eq)]
+#[derive(Clone, Copy)]
 pub enum Took {
     /// Its lifetime is over.
     Dead,

@@ -4,7 +4,7 @@ use pdu_header::nsaps::Address;
 use reassembly::TableLimits;
 
 /// A source that has reassembly buffers of its own, and the numbers that these keep to.
-#[derive(Clone, Copy, PartialEq, Eq)]
+#[derive(Clone, Copy)]
 pub struct Share {
     pub from: Address,
     pub limits: TableLimits,

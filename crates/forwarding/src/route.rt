@@ -3,7 +3,7 @@ use nsap::base::NoMemory;
 use nsap::{Address, Prefix, Snpa};
 
 /// Where PDUs go whose destinations' addresses begin with a prefix.
-#[derive(Clone, Copy, Debug, PartialEq, Eq)]
+#[derive(Clone, Copy, PartialEq, Eq)]
 pub struct Route {
     /// The prefix of the destinations' NSAP addresses.
     pub prefix: Prefix,

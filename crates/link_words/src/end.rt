@@ -6,7 +6,7 @@ use nsap::Snpa;
 use nsap::base::InlineOctets;
 
 /// An end of links over UDP: an IPv4 address, and a port.
-#[derive(Clone, Copy, Debug, Default, PartialEq, Eq)]
+#[derive(Clone, Copy, Default, PartialEq, Eq)]
 pub struct End {
     /// The four octets of the address.
     pub address: [u8; 4],

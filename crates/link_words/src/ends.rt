@@ -6,7 +6,7 @@ use arrayvec::ArrayVec;
 use std::marker::Model;
 
 /// What a peer is: frames for a group go to the peers of that role.
-#[derive(Clone, Copy, Debug, Default, PartialEq, Eq)]
+#[derive(Clone, Copy, Default, PartialEq, Eq)]
 pub enum Role {
     /// An end system.
     #[default]
@@ -16,7 +16,7 @@ pub enum Role {
 }
 
 /// A system at the other side of a link.
-#[derive(Clone, Copy, Debug, Default, PartialEq, Eq)]
+#[derive(Clone, Copy, Default, PartialEq, Eq)]
 pub struct Peer {
     /// What it is.
     pub role: Role,

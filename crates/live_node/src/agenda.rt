@@ -5,7 +5,7 @@ ghost use Rattle.scenario.specs.Scenario.{ticks_of};
 use scenario::Event;
 
 /// The place of the next event of a scenario, and the moment at which the ticks before it are over.
-#[derive(Clone, Copy, Debug, PartialEq, Eq)]
+#[derive(Clone, Copy)]
 pub(crate) struct Agenda {
     pub(crate) next: usize,
     pub(crate) moment: u64,

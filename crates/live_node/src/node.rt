@@ -15,7 +15,7 @@ use link_board::base::{NoMemory, Sink};
 use std::alloc::Global;
 
 /// Why a turn was broken off.
-#[derive(Clone, Copy, Debug, PartialEq, Eq)]
+#[derive(Clone, Copy)]
 pub(crate) enum Stop {
     WriteFault,
     NoMemory,

@@ -24,7 +24,7 @@ use scenario::Scenario;
 use std::alloc::Global;
 
 /// Why a run of a live node stopped before its last turn was over.
-#[derive(Clone, Copy, Debug, PartialEq, Eq)]
+#[derive(Clone, Copy, PartialEq, Eq)]
 pub enum RunStop {
     /// The sink failed.
     WriteFault,

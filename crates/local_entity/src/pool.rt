@@ -11,7 +11,7 @@ use std::marker::Model;
 const IDENTIFIERS: usize = 65_536;
 
 /// Why no identifier is drawn.
-#[derive(Clone, Copy, Debug, PartialEq, Eq)]
+#[derive(Clone, Copy, PartialEq, Eq)]
 pub enum DrawRefusal {
     /// The next identifier was used at this moment, which isn't long enough ago.
     IdsBusy { used: u64 },

@@ -9,7 +9,7 @@ use clnp_machine::clnp::{Kind, Pdu};
 use clnp_machine::reports::read;
 
 /// What a unit is for, once it is whole.
-#[derive(Clone, Copy, PartialEq, Eq)]
+#[derive(Clone, Copy)]
 pub(crate) enum Purpose {
     /// Its data are handed up.
     Data,

@@ -14,7 +14,7 @@ use command_base::base::Sink;
 use std::alloc::Global;
 
 /// Why no further move is played.
-#[derive(Clone, Copy, PartialEq, Eq)]
+#[derive(Clone, Copy)]
 pub(crate) enum Stop {
     /// The copies weigh too much: so many octets.
     WorldFull { octets: u64 },

@@ -16,7 +16,7 @@ use command_base::{Status, push_number};
 use std::alloc::Global;
 
 /// What a run of the scenario of a seed comes to.
-#[derive(Clone, Copy, PartialEq, Eq)]
+#[derive(Clone, Copy)]
 pub(crate) struct Summary {
     pub(crate) seed: u64,
     pub(crate) events: u64,

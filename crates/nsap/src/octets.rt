@@ -17,7 +17,7 @@ const MOST: usize = 20;
 
 /// One to twenty octets, which a contract sees as their list. They are ordered as lists are: the first
 /// octets that differ decide, and a beginning of a list comes before it.
-#[derive(Clone, Copy, Debug)]
+#[derive(Clone, Copy)]
 pub(crate) struct Octets {
     octets: InlineOctets<MOST>,
 }

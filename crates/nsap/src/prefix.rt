@@ -21,7 +21,7 @@ const MOST: usize = 40;
 ///
 /// A contract sees it as the list of its digits, and it is ordered as they are: the first digits that differ
 /// decide, and a beginning of a prefix comes before it.
-#[derive(Clone, Copy, Debug)]
+#[derive(Clone, Copy)]
 pub struct Prefix {
     digits: InlineOctets<MOST>,
 }

@@ -14,7 +14,7 @@ use std::marker::Model;
 ///
 /// A contract sees it as the list of its octets, and it is ordered as they are: the first octets
 /// that differ decide, and a beginning of an address comes before it.
-#[derive(Clone, Copy, Debug, PartialEq, Eq, PartialOrd, Ord)]
+#[derive(Clone, Copy, PartialEq, Eq)]
 pub struct Snpa {
     octets: Octets,
 }

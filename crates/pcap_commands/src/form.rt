@@ -1,7 +1,7 @@
 //! In which form the records of a file are told.
 
 /// What the line of a record is.
-#[derive(Clone, Copy, PartialEq, Eq)]
+#[derive(Clone, Copy)]
 pub enum Form {
     /// Its number and, of an OSI frame, destination, source and the line that shows the PDU.
     Shown,

@@ -1,7 +1,7 @@
 //! What is wrong with a file.
 
 /// Why octets are no file of Ethernet captures: the first thing that is wrong with them.
-#[derive(Clone, Copy, Debug, PartialEq, Eq)]
+#[derive(Clone, Copy, PartialEq, Eq)]
 pub enum PcapFault {
     /// The first four octets are no magic number of the form, in neither order of octets.
     Magic,
@@ -14,7 +14,7 @@ pub enum PcapFault {
 }
 
 /// A file that ends within its header or within a record, of which so many octets came.
-#[derive(Clone, Copy, Debug, PartialEq, Eq)]
+#[derive(Clone, Copy, PartialEq, Eq)]
 pub struct CutFile {
     /// The octets of the header or of the record that came.
     pub octets: usize,

@@ -25,7 +25,7 @@ pub(crate) const MOST_CAPTURED: u32 = 262_144;
 pub(crate) const MOST_HELD: usize = 262_160;
 
 /// What one call of a reader took.
-#[derive(Clone, Copy, Debug, PartialEq, Eq)]
+#[derive(Clone, Copy, PartialEq, Eq)]
 pub struct Took {
     /// How many octets of the piece.
     pub octets: usize,

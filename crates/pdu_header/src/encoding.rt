@@ -11,7 +11,7 @@ use crate::write::{header_len, written};
 use std::alloc::Global;
 
 /// Why no PDU can be made.
-#[derive(Clone, Copy, Debug, PartialEq, Eq)]
+#[derive(Clone, Copy)]
 pub enum EncodeRefusal {
     /// The header would have this number of octets, above 254 (ISO 8473, section 7.2.3).
     HeaderTooLong { octets: usize },

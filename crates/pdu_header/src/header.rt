@@ -25,7 +25,7 @@ use nsap::base::InlineOctets;
 use std::marker::Model;
 
 /// Why no header can be made.
-#[derive(Clone, Copy, Debug, PartialEq, Eq)]
+#[derive(Clone, Copy)]
 pub enum HeaderRefusal {
     /// The header would have this number of octets, above 254 (ISO 8473, section 7.2.3).
     HeaderTooLong { octets: usize },
@@ -37,7 +37,7 @@ pub enum HeaderRefusal {
 ///
 /// A contract sees it as the list of its octets. They are the header of the PDUs that have a certain
 /// value; of the data the header tells the length alone.
-#[derive(Clone, Copy, PartialEq, Eq)]
+#[derive(Clone, Copy)]
 pub struct Header {
     cells: InlineOctets<MOST_HEADER>,
 }

@@ -5,7 +5,7 @@ ghost use Rattle.pdu_header.specs.Rules as pdu_rules;
 ghost use Rattle.std.specs.Prelude.{◌≡◌};
 
 /// The kind of a PDU (ISO 8473, section 7.2.7; the echo PDUs by RFC 1575, section 4).
-#[derive(Clone, Copy, PartialEq, Eq)]
+#[derive(Clone, Copy)]
 pub enum Kind {
     /// Data.
     Dt,

@@ -2,7 +2,7 @@ use crate::kind::Kind;
 use nsap::Address;
 
 /// The segmentation part of a header (ISO 8473, section 7.4).
-#[derive(Clone, Copy, PartialEq, Eq)]
+#[derive(Clone, Copy)]
 pub struct SegPart {
     /// The data unit identifier, which all segments of a unit share.
     pub id: u16,
@@ -42,7 +42,7 @@ pub struct Pdu<'a> {
 }
 
 /// Why a frame that begins with 0x81 is no PDU: the least rule, 1 to 20, that it breaks.
-#[derive(Clone, Copy, Debug, PartialEq, Eq)]
+#[derive(Clone, Copy)]
 pub struct Broken {
     /// The rule.
     pub rule: u8,
@@ -55,7 +55,7 @@ pub struct Broken {
 }
 
 /// Why a frame is refused.
-#[derive(Clone, Copy, Debug, PartialEq, Eq)]
+#[derive(Clone, Copy)]
 pub enum Refusal {
     /// It doesn't begin with 0x81, the identifier of this protocol.
     NotClnp,
@@ -64,7 +64,7 @@ pub enum Refusal {
 }
 
 /// Where an error report goes, and how much of the frame it carries.
-#[derive(Clone, Copy, PartialEq, Eq)]
+#[derive(Clone, Copy)]
 pub struct ReportTo {
     /// The discarded PDU's source, to which the report goes.
     pub from: Address,

@@ -26,7 +26,7 @@ mod room;
 use room::make_room;
 
 /// The numbers that a table keeps to.
-#[derive(Clone, Copy, PartialEq, Eq)]
+#[derive(Clone, Copy)]
 pub struct TableLimits {
     /// The most buffers at a time.
     pub slots: u16,

@@ -6,7 +6,7 @@ ghost use Rattle.scenario.specs.Scenario.{passed_by, ticks_of};
 use crate::event::Event;
 
 /// The events so far, the copies that they settle and lose, and the ticks that they let pass.
-#[derive(Clone, Copy, Debug, PartialEq, Eq)]
+#[derive(Clone, Copy)]
 pub(crate) struct Counts {
     pub(crate) events: u64,
     pub(crate) passed: u64,

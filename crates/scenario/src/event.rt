@@ -170,7 +170,7 @@ impl Event {
 }
 
 /// One move of the simulated network.
-#[derive(Clone, Copy, PartialEq, Eq)]
+#[derive(Clone, Copy)]
 pub enum Move {
     /// The event at this place, from 0, which is none of `Settle`, `Lose`, `Tick` and `TickSystem`.
     One(usize),

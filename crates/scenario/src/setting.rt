@@ -15,7 +15,7 @@ use clnp_plan::base::{next_word, same};
 use std::alloc::Global;
 
 /// A setting of a system.
-#[derive(Clone, Copy, PartialEq, Eq)]
+#[derive(Clone, Copy)]
 pub(crate) enum Setting {
     /// How often it says hello, in seconds; 0 is never.
     Hello(u16),

@@ -13,14 +13,14 @@ use pdu_header::{Header, SegPart, laws};
 use std::marker::Model;
 
 /// A PDU that is longer than the MTU, and may not be segmented since it has no segmentation part.
-#[derive(Clone, Copy, Debug, PartialEq, Eq)]
+#[derive(Clone, Copy)]
 pub struct NotPermitted {
     /// The octets of the PDU: its header and its data.
     pub octets: usize,
 }
 
 /// A piece of a PDU: its header, and its data as `len` octets from place `from` of the PDU's data.
-#[derive(Clone, Copy, PartialEq, Eq)]
+#[derive(Clone, Copy)]
 pub struct Cut {
     /// The piece's header.
     pub head: Header,

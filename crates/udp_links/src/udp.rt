@@ -15,7 +15,7 @@ use std::thread;
 use std::time::Duration;
 
 /// Why a link wasn't opened.
-#[derive(Clone, Copy, Debug, PartialEq, Eq)]
+#[derive(Clone, Copy, Debug)]
 pub enum LinkFault {
     /// The local end couldn't be bound.
     Refused,

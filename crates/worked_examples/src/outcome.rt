@@ -15,7 +15,7 @@ const ROOM: usize = 1_000_000;
 const PIECE: usize = 4096;
 
 /// How many cases came to what they must, and how many didn't.
-#[derive(Clone, Copy, PartialEq, Eq)]
+#[derive(Clone, Copy)]
 pub(crate) struct Tally {
     pub(crate) passed: u64,
     pub(crate) failed: u64,

@@ -4,7 +4,7 @@ use std::alloc::{AllocError, Global};
 
 /// Which lines of an output are compared: where a source tells a part of the lines, the case
 /// compares that part.
-#[derive(Clone, Copy, PartialEq, Eq)]
+#[derive(Clone, Copy)]
 pub(crate) enum Selection<'a> {
     /// All of them.
     All,
