@@ -1,8 +1,8 @@
 -- The moves of a run whose lines are counted, and the scenario of a seed.
-use Rattle.std.proofs.Common.{◌≡◌, ℕ, inl, List, [], Option, None, Some, Ok, refl, subst, sym, ap, ◌∙◌, append-nil}
+use Rattle.std.proofs.Common.{◌≡◌, ℕ, inl, List, [], Option, None, Some, Ok, Err, refl, subst, sym, ap, ◌∙◌, append-nil}
 use Rattle.std.specs.Prelude.{length}
 use Rattle.std.specs.Io.KnownBytes.{Appends, Keeps}
-use Rattle.std.proofs.KnownBytes.{Appends-nil}
+use Rattle.std.proofs.KnownBytes.{Appends-nil, Keeps-refl}
 use Rattle.clnp_machine.specs.ClnpBase.Streams.{AppendsFront}
 use Rattle.clnp_machine.specs.ClnpPlan.declared.journal.Telling.TheVariants as telling
 use Rattle.clnp_world.specs.Scenario.Scenario.{IsFit, Plan}
@@ -15,12 +15,15 @@ use Rattle.clnp_world.specs.State.{WorldState}
 use Rattle.clnp_world.specs.Lines.{both, no_lines}
 use Rattle.clnp_world.specs.Stands.{Stands}
 use Rattle.clnp_world.specs.declared.lines.Counts.{Counts}
+use Rattle.network_commands.specs.declared.play.Stop.{Stop}
+use Rattle.network_commands.specs.declared.play.Stop.TheVariants as stop
 use Rattle.network_commands.specs.declared.storm.Summary.{Summary}
 use Rattle.command_base.specs.declared.status.Status.{Status}
 use Rattle.command_base.specs.declared.status.Status.TheVariants as status
 use Rattle.command_base.specs.ByLine.{EndOf}
 use Rattle.network_commands.specs.RunTasks.{run_status, storm_task}
 use Rattle.command_base.specs.ComesAs.{ComesAs}
+use Rattle.network_commands.specs.Play.{status_of}
 use Rattle.network_commands.specs.Storm.{counts_of, line_of_run, line_unless, storm_line, storm_stopped_at, summary_text}
 use Rattle.network_commands.specs.Counting.{Counted, SumOf}
 use Rattle.network_commands.proofs.Counting.{counts_of-append, moves_counts, text_of-ends, both-none}
@@ -95,8 +98,20 @@ storm_ended seed plan summary a b status.ReadFault is sum p = absurd p
 storm_ended seed plan summary a b (status.LinksGone links) is sum p = absurd p
 
 -- the run of a storm was stopped
-pub storm_full : (seed : ℕ) (plan : Plan) (octets : ℕ) (a : Option (List ℕ)) → plan ≡ storm seed → stopped_at plan ≡ Some octets
-    → ComesAs (storm_task seed) a a (status.WorldFull octets)
-storm_full seed plan octets a is full =
-    let stop : storm_stopped_at seed ≡ Some octets = (storm_is seed plan is).0 ∙ full in
-    (ap run_status stop, subst (λ (t : List ℕ). Appends a a t) (sym (ap (λ (t : Option ℕ). line_unless t (storm_line seed)) stop)) (Appends-nil a))
+pub storm_stopped : (seed : ℕ) (e : Stop) (a : Option (List ℕ)) → SumOf seed (storm seed) (Err e)
+    → ComesAs (storm_task seed) a a (status_of e)
+storm_stopped seed (stop.WorldFull octets) a full =
+    let weighs : storm_stopped_at seed ≡ Some octets = (storm_is seed (storm seed) refl).0 ∙ full in
+    (ap run_status weighs, subst (λ (t : List ℕ). Appends a a t) (sym (ap (λ (t : Option ℕ). line_unless t (storm_line seed)) weighs)) (Appends-nil a))
+storm_stopped seed stop.WriteFault a full = absurd full
+storm_stopped seed stop.NoMemory a full = inl (Keeps-refl a)
+
+-- the status of a sink's fault is that of no other stop
+abbrev IsElse : Status → Type 0
+IsElse status.WriteFault = ⊥
+IsElse _ = Unit {0}
+
+pub stops_for_write_fault : (e : Stop) → status_of e ≡ status.WriteFault → e ≡ stop.WriteFault
+stops_for_write_fault stop.WriteFault is = refl
+stops_for_write_fault stop.NoMemory is = absurd (subst IsElse is tt)
+stops_for_write_fault (stop.WorldFull octets) is = absurd (subst IsElse is tt)

@@ -9,9 +9,17 @@ use Rattle.clnp_world.specs.ClnpNetwork.LabelledNetwork as network
 use Rattle.clnp_world.specs.ClnpNetwork.Run.{told, told_of, world_after, full_weight, stopped_at, until_full}
 use Rattle.clnp_world.specs.State.{WorldState}
 use Rattle.clnp_world.specs.Stands.{Stands}
+use Rattle.command_base.specs.declared.status.Status.{Status}
+use Rattle.command_base.specs.declared.status.Status.TheVariants as status
 use Rattle.network_commands.specs.declared.play.Stop.{Stop}
 use Rattle.network_commands.specs.declared.play.Stop.TheVariants as stop
 use Rattle.network_commands.specs.Sim.{AppendsMoves, AppendsWholeMoves}
+
+-- the status of a run that was stopped
+abbrev pub status_of : Stop → Status
+status_of (stop.WorldFull octets) = status.WorldFull octets
+status_of stop.WriteFault = status.WriteFault
+status_of stop.NoMemory = status.NoMemory
 
 -- What writing a piece comes to: it was written; a front of it was; or nothing was.
 abbrev pub PieceOf : {A : Type 0} → List ℕ → Option (List ℕ) → Option (List ℕ) → Result A Stop → Type 0

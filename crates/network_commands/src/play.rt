@@ -5,11 +5,13 @@ ghost use Rattle.clnp_world.specs.Scenario.Scenario.{moves_of};
 ghost use Rattle.clnp_world.specs.ClnpNetwork.LabelledNetwork as network;
 ghost use Rattle.clnp_world.specs.ClnpNetwork.Run.{moves_of_plan, world_after};
 ghost use Rattle.clnp_world.specs.Stands.{Stands};
+ghost use Rattle.network_commands.specs.Play.{status_of};
 ghost use Rattle.network_commands.specs.Playing.{IsUnderWay, Kind, PlayAs, Played};
 ghost use Rattle.network_commands.specs.Time.{HasTime};
 
 use clnp_world::World;
 use clnp_world::scenarios::{Event, Move, Scenario};
+use command_base::Status;
 use command_base::base::Sink;
 use std::alloc::Global;
 
@@ -20,6 +22,19 @@ pub(crate) enum Stop {
     WorldFull { octets: u64 },
     WriteFault,
     NoMemory,
+}
+
+impl Stop {
+    /// The status of a run that it ends.
+    pub(crate) fn status(self) -> Status
+        ensures { result ≡ status_of self }
+    {
+        match self {
+            Stop::WorldFull { octets } => Status::WorldFull { octets },
+            Stop::WriteFault => Status::WriteFault,
+            Stop::NoMemory => Status::NoMemory,
+        }
+    }
 }
 
 /// What is made of the lines of moves.

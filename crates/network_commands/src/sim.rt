@@ -32,9 +32,7 @@ pub fn sim<K: Sink>(alloc: Global, telling: Telling, text: &[u8], sink: &mut K) 
     match clnp_world::scenarios::read(alloc, text) {
         Ok(scenario) => match play(alloc, &scenario, telling, sink) {
             Ok(()) => Status::Done,
-            Err(Stop::WorldFull { octets }) => Status::WorldFull { octets },
-            Err(Stop::WriteFault) => Status::WriteFault,
-            Err(Stop::NoMemory) => Status::NoMemory,
+            Err(stop) => stop.status(),
         },
         Err(ScenarioRefusal::BadLine { line, code }) => Status::BadInput { line, code },
         Err(ScenarioRefusal::NoMemory) => Status::NoMemory,
@@ -59,14 +57,29 @@ fn play<K: Sink>(
     ensures failed { result ≡ Err Stop.WriteFault → Rose (K.faults sink.old) (K.faults sink.new) }
 {
     match World::new(alloc, scenario) {
-        Ok(mut world) => {
-            let block = Vec::new(alloc);
-            let mut blocks = Blocks { telling, block };
-            play_events(alloc, scenario, &mut world, &mut blocks, sink)?;
-            write_end(alloc, &world, &mut blocks.block, sink)
-        }
+        Ok(mut world) => play_in(alloc, scenario, telling, &mut world, sink),
         Err(_) => Err(Stop::NoMemory),
     }
+}
+
+/// The same, in the scenario's network at its start.
+fn play_in<K: Sink>(
+    alloc: Global,
+    scenario: &Scenario,
+    telling: Telling,
+    world: &mut World,
+    sink: &mut K,
+) -> Result<(), Stop>
+    requires fit { IsFit scenario.now }
+    requires start { Stands world.old (network.first_world scenario.now) }
+    ensures later { K.faults sink.old ≤ K.faults sink.new }
+    ensures comes_to { RunOf telling scenario.now (K.written sink.old) (K.written sink.new) result }
+    ensures failed { result ≡ Err Stop.WriteFault → Rose (K.faults sink.old) (K.faults sink.new) }
+{
+    let block = Vec::new(alloc);
+    let mut blocks = Blocks { telling, block };
+    play_events(alloc, scenario, world, &mut blocks, sink)?;
+    write_end(alloc, world, &mut blocks.block, sink)
 }
 
 /// The text of the lines of moves, which is written in blocks.

@@ -1,6 +1,10 @@
 //! The command `storm`: what a run of the scenario of a seed counts.
 ghost use Rattle.std.specs.Prelude.{◌≡◌, ◌≤◌, ◌++◌, OnOk, Err};
 ghost use Rattle.clnp_machine.specs.ClnpBase.Streams.{Rose};
+ghost use Rattle.clnp_world.specs.Scenario.Scenario.{IsFit};
+ghost use Rattle.clnp_world.specs.Scenario.Seeds as seeds;
+ghost use Rattle.clnp_world.specs.ClnpNetwork.LabelledNetwork as network;
+ghost use Rattle.clnp_world.specs.Stands.{Stands};
 ghost use Rattle.command_base.specs.ByLine.{EndOf};
 ghost use Rattle.command_base.specs.ComesAs.{ComesAs};
 ghost use Rattle.network_commands.specs.RunTasks.{storm_task};
@@ -56,14 +60,22 @@ pub fn storm<K: Sink>(alloc: Global, seed: u64, sink: &mut K) -> Status
     ensures comes_to { ComesAs (storm_task seed) (K.written sink.old) (K.written sink.new) result }
     ensures failed { result ≡ Status.WriteFault → Rose (K.faults sink.old) (K.faults sink.new) }
 {
-    let Ok(scenario) = from_seed(alloc, seed) else {
-        return Status::NoMemory;
-    };
-    match sum_up(alloc, seed, &scenario, sink) {
+    match run_seed(alloc, seed, sink) {
         Ok(summary) => write_line(alloc, summary, sink),
-        Err(Stop::WorldFull { octets }) => Status::WorldFull { octets },
-        Err(Stop::WriteFault) => Status::WriteFault,
-        Err(Stop::NoMemory) => Status::NoMemory,
+        Err(stop) => stop.status(),
+    }
+}
+
+/// Runs the scenario of a seed, and sums up what it comes to. Nothing is written.
+fn run_seed<K: Sink>(alloc: Global, seed: u64, sink: &mut K) -> Result<Summary, Stop>
+    ensures later { K.faults sink.old ≤ K.faults sink.new }
+    ensures sums { SumOf seed (seeds.storm seed) result }
+    ensures same { K.written sink.new ≡ K.written sink.old }
+    ensures failed { result ≡ Err Stop.WriteFault → Rose (K.faults sink.old) (K.faults sink.new) }
+{
+    match from_seed(alloc, seed) {
+        Ok(scenario) => sum_up(alloc, seed, &scenario, sink),
+        Err(_) => Err(Stop::NoMemory),
     }
 }
 
@@ -83,7 +95,7 @@ fn write_line<K: Sink>(alloc: Global, summary: Summary, sink: &mut K) -> Status
     }
 }
 
-/// Runs the scenario of a seed, and sums up what it comes to. Nothing is written.
+/// Runs a scenario that a seed made, and sums up what it comes to. Nothing is written.
 fn sum_up<K: Sink>(
     alloc: Global,
     seed: u64,
@@ -97,11 +109,29 @@ fn sum_up<K: Sink>(
 {
     // Its clause: the ticks of a scenario are few, so that a clock has room for them.
     scenario.is_fit();
-    let Ok(mut world) = World::new(alloc, scenario) else {
-        return Err(Stop::NoMemory);
-    };
+    match World::new(alloc, scenario) {
+        Ok(mut world) => sum_up_in(alloc, seed, scenario, &mut world, sink),
+        Err(_) => Err(Stop::NoMemory),
+    }
+}
+
+/// The same, in the scenario's network at its start.
+fn sum_up_in<K: Sink>(
+    alloc: Global,
+    seed: u64,
+    scenario: &Scenario,
+    world: &mut World,
+    sink: &mut K,
+) -> Result<Summary, Stop>
+    requires fit { IsFit scenario.now }
+    requires start { Stands world.old (network.first_world scenario.now) }
+    ensures later { K.faults sink.old ≤ K.faults sink.new }
+    ensures sums { SumOf seed scenario.now result }
+    ensures same { K.written sink.new ≡ K.written sink.old }
+    ensures failed { result ≡ Err Stop.WriteFault → Rose (K.faults sink.old) (K.faults sink.new) }
+{
     let mut counts = Counts::none();
-    play_events(alloc, scenario, &mut world, &mut counts, sink)?;
+    play_events(alloc, scenario, world, &mut counts, sink)?;
     Ok(Summary {
         seed,
         events: scenario.events().len() as u64,

@@ -5,34 +5,34 @@ use Rattle.clnp_world.specs.ClnpNetwork.LabelledNetwork.{first_world}
 use Rattle.network_commands.specs.Playing.{Counting}
 use Rattle.network_commands.proofs.Clocks.{time_at_first}
 use Rattle.network_commands.proofs.Storms.{count_none, summary_is}
-use Rattle.network_commands.proofs.storm.sum_up.Goals as goal
+use Rattle.network_commands.proofs.storm.sum_up_in.Goals as goal
 
 pub play_events-requires : goal.play_events-requires
-play_events-requires g c = time_at_first c.args.scenario.now c.in-Ok.world c.is_fit.ensures c.in-Ok.ensures
+play_events-requires g c = time_at_first c.args.scenario.now c.args.world.now c.requires.fit c.requires.start
 
 pub returns-in_err-play_events-clause-sums : goal.returns-in_err-play_events-clause-sums
 returns-in_err-play_events-clause-sums g c =
     let p = err_from_is_err_and c.from_residual.result c.from_residual.ensures.1 in
     let plan = c.args.scenario.now in
     rw (p.1, p.2) (c.in_err-play_events.ensures.comes_to Counting (first_world plan) [] (g.K.Sink.written c.args.sink.now)
-    (refl, count_none plan c.in-Ok.world c.none-counts.result c.in-Ok.ensures c.none-counts.ensures)).1
+    (refl, count_none plan c.args.world.now c.none-counts.result c.requires.start c.none-counts.ensures)).1
 
 pub returns-in_err-play_events-clause-same : goal.returns-in_err-play_events-clause-same
 returns-in_err-play_events-clause-same g c =
     let plan = c.args.scenario.now in
     (c.in_err-play_events.ensures.comes_to Counting (first_world plan) [] (g.K.Sink.written c.args.sink.now)
-    (refl, count_none plan c.in-Ok.world c.none-counts.result c.in-Ok.ensures c.none-counts.ensures)).0
+    (refl, count_none plan c.args.world.now c.none-counts.result c.requires.start c.none-counts.ensures)).0
 
 pub returns-clause-sums : goal.returns-clause-sums
 returns-clause-sums g c =
     let plan = c.args.scenario.now in
     let counted = (c.in_ok-play_events.ensures.comes_to Counting (first_world plan) [] (g.K.Sink.written c.args.sink.now)
-    (refl, count_none plan c.in-Ok.world c.none-counts.result c.in-Ok.ensures c.none-counts.ensures)).1 in
+    (refl, count_none plan c.args.world.now c.none-counts.result c.requires.start c.none-counts.ensures)).1 in
     summary_is c.args.seed (length c.events.result.now) c.copies.result c.clock.result plan c.play_events.new.world c.play_events.new.player
-    c.is_fit.ensures counted (ap length c.events.ensures) (c.copies.ensures _ counted.stands) (c.clock.ensures.stands _ counted.stands)
+    c.requires.fit counted (ap length c.events.ensures) (c.copies.ensures _ counted.stands) (c.clock.ensures.stands _ counted.stands)
 
 pub returns-clause-same : goal.returns-clause-same
 returns-clause-same g c =
     let plan = c.args.scenario.now in
     (c.in_ok-play_events.ensures.comes_to Counting (first_world plan) [] (g.K.Sink.written c.args.sink.now)
-    (refl, count_none plan c.in-Ok.world c.none-counts.result c.in-Ok.ensures c.none-counts.ensures)).0
+    (refl, count_none plan c.args.world.now c.none-counts.result c.requires.start c.none-counts.ensures)).0
