@@ -1,6 +1,6 @@
 #!/usr/bin/env bash
 # Looks that ./clnp never runs a program of other sources than those that are there, and builds none where nothing changed.
-# It works on a small tree of its own, in which a stand-in for rt builds a program that tells the octets of its sources.
+# It works on a small tree of its own, for which a stand-in for the kit builds a program that tells the octets of its sources.
 set -u
 root="$(cd "$(dirname "$0")/../.." && pwd)" || exit 2
 work="$(mktemp -d)" || exit 2
@@ -14,38 +14,64 @@ echo main >"$tree/crates/clnp_tool/src/main.rt"
 echo definition >"$tree/crates/leaf/specs/Lib.antt"
 echo proof >"$tree/crates/leaf/proofs/Lib.antt"
 
+mkdir -p "$work/rlibs/std.rlib" "$work/logic_built" "$work/rattle/logic" "$work/toolchain" "$work/c"
+touch "$work/rattle/logic/antt-project.json" "$work/c/libos_c.a" "$work/c/liblibc_c.a"
+
 cat >"$work/bin/rt" <<'RT'
 #!/usr/bin/env bash
-# `rt lib`, in the folder of a crate below the program, `rt run`, in crates/clnp_tool, and `rt version`.
+# `rt version`, and `rt run`, in crates/clnp_tool, of a kit whose prover isn't where it was.
 if [ "$1" = version ]; then
     echo "a stand-in"
     exit 0
 fi
-if [ "$1" = lib ]; then
-    mkdir -p out/rlib && echo "${PWD##*/}" >out/rlib/name
+echo built >>../../built
+mkdir -p out
+printf '#!/bin/sh\necho "%s"\n' "$(cat ../*/src/*.rt ../*/specs/*.antt | tr '\n' ' ')" >out/clnp_tool
+chmod +x out/clnp_tool
+RT
+cat >"$work/bin/rattle" <<'RATTLE'
+#!/usr/bin/env bash
+# `rattle build --help`, and `rattle build ROOT .. -o PATH` in the folder of a crate: the library of its root src/lib.rt, or the
+# object file of src/main.rt, for which each library is where the words say.
+if [ "$2" = --help ]; then
+    echo "  --statements"
+    exit 0
+fi
+to="${*: -1}"
+if [ "$2" = src/lib.rt ]; then
     if [ "$(cat proofs/Lib.antt 2>/dev/null)" = slow ]; then
-        touch out/kept "$SLOW" && sleep 20
+        echo $$ >"$SLOW" && sleep 20
     fi
     if [ "$(cat proofs/Lib.antt 2>/dev/null)" = wrong ]; then
         echo "this isn't proved"
         exit 1
     fi
-    exit 0
+    echo "${PWD##*/}" >>../../proved
+    mkdir -p "$to" && echo "${PWD##*/}" >"$to/name"
+    exit
 fi
-for name in $(sed -n 's/:.*//p' ../../crates.txt); do
-    if [ "$name" != clnp_tool ] && [ "$(cat "../$name/out/rlib/name")" != "$name" ]; then
-        exit 1
-    fi
+for word in "$@"; do
+    case "$word" in
+        std=* | dependency=*) ;;
+        *=?*) [ "$(cat "${word#*=}/name")" = "${word%%=*}" ] || exit 1 ;;
+    esac
 done
 echo built >>../../built
-mkdir -p out
-printf '#!/bin/sh\necho "%s"\n' "$(cat ../*/src/*.rt ../*/specs/*.antt | tr '\n' ' ')" >out/clnp_tool
-chmod +x out/clnp_tool
+cat ../*/src/*.rt ../*/specs/*.antt | tr '\n' ' ' >"$to"
 if [ -f ../../meanwhile ]; then
     mv ../../meanwhile ../leaf/src/lib.rt
 fi
-RT
-chmod +x "$work/bin/rt"
+RATTLE
+cat >"$work/bin/rattle-link" <<'LINK'
+#!/usr/bin/env bash
+# `rattle-link .. -o PROGRAM FILE ..`
+while [ "$1" != -o ]; do
+    shift
+done
+printf '#!/bin/sh\necho "%s"\n' "$(cat "$3")" >"$2"
+chmod +x "$2"
+LINK
+chmod +x "$work/bin/rt" "$work/bin/rattle" "$work/bin/rattle-link"
 export PATH="$work/bin:$PATH"
 failed=0
 
@@ -102,7 +128,8 @@ touch "$tree/crates/clnp_tool/out/clnp_tool" && rm "$tree/crates/clnp_tool/out/"
 want "no stamp, and no source changed since" 13
 rm "$tree/crates/clnp_tool/out/"clnp_stamp.* && echo another >"$tree/$code/lib.rt"
 want "no stamp, and a source that changed" 14
-# Where a crate isn't proved no program is built or run, and where a build is stopped it goes on with what was kept.
+# Where a crate isn't proved no program is built or run, and a build that is stopped leaves nothing at work. What was proved before
+# isn't proved again.
 echo broken >"$tree/$code/lib.rt" && echo wrong >"$tree/crates/leaf/proofs/Lib.antt"
 said="$("$tree/clnp" 2>"$work/errors")"
 status=$?
@@ -114,24 +141,37 @@ echo slow >"$tree/crates/leaf/proofs/Lib.antt"
 SLOW="$work/slow" "$tree/clnp" >"$work/said" 2>"$work/errors" &
 process=$!
 for _ in $(seq 300); do
-    [ ! -e "$work/slow" ] || break
+    [ ! -s "$work/slow" ] || break
     sleep 0.1
 done
 kill "$process" && wait "$process"
 status=$?
-if [ "$status" -ne 130 ] || [ -s "$work/said" ] || [ ! -e "$tree/crates/leaf/out/kept" ] || [ -e "$tree/crates/clnp_tool/out/benches" ]; then
+if [ "$status" -ne 130 ] || [ -s "$work/said" ] || [ ! -s "$work/slow" ] || kill -0 "$(cat "$work/slow")" 2>/dev/null; then
     echo "a build that is stopped: said '$(cat "$work/said")', ended with $status" >&2
     failed=1
 fi
+# How often crates were proved.
+want_proved() {
+    local proved
+    proved="$(grep -c "^$2\$" "$tree/proved")"
+    if [ "$proved" -ne "$3" ]; then
+        echo "$1: $2 was proved $proved times and not $3" >&2
+        failed=1
+    fi
+}
+leaf="$(grep -c '^leaf$' "$tree/proved")" more="$(grep -c '^more$' "$tree/proved")"
 echo proof >"$tree/crates/leaf/proofs/Lib.antt"
 want "behind a build that was stopped" 15
-mkdir -p "$tree/crates/clnp_tool/out/benches/1/crates/leaf" && touch "$tree/crates/leaf/out/left"
-mv "$tree/crates/leaf/out" "$tree/crates/clnp_tool/out/benches/1/crates/leaf/out" && echo anew >"$tree/$code/lib.rt"
+want_proved "behind a build that was stopped" leaf $((leaf + 1))
+want_proved "behind a build that was stopped" more "$more"
+rm "$tree/crates/clnp_tool/out/rlib/leaf.basis" "$tree/crates/clnp_tool/out/clnp_tool"
 want "behind a build that was killed" 16
-if [ ! -e "$tree/crates/leaf/out/left" ]; then
-    echo "behind a build that was killed: what it kept is lost" >&2
-    failed=1
-fi
+want_proved "behind a build that was killed" leaf $((leaf + 2))
+want_proved "behind a build that was killed" more "$more"
+# Where the kit has its parts at other places rt builds the program.
+mv "$work/bin/rattle" "$work/elsewhere" && echo elsewhere >"$tree/$code/lib.rt"
+want "a kit with its parts at other places" 17
+mv "$work/elsewhere" "$work/bin/rattle"
 # A program whose sources changed isn't run either where it can't be built.
 rm "$work/bin/rt" && echo last >"$tree/$code/lib.rt"
 if command -v rt >/dev/null; then
