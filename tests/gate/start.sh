@@ -168,9 +168,11 @@ rm "$tree/crates/clnp_tool/out/rlib/leaf.basis" "$tree/crates/clnp_tool/out/clnp
 want "behind a build that was killed" 16
 want_proved "behind a build that was killed" leaf $((leaf + 2))
 want_proved "behind a build that was killed" more "$more"
-# Where the kit has its parts at other places rt builds the program.
+# Where the kit has its parts at other places, or its prover takes other words, rt builds the program.
 mv "$work/bin/rattle" "$work/elsewhere" && echo elsewhere >"$tree/$code/lib.rt"
 want "a kit with its parts at other places" 17
+printf '#!/bin/sh\nexit 2\n' >"$work/bin/rattle" && chmod +x "$work/bin/rattle" && echo strange >"$tree/$code/lib.rt"
+want "a kit whose prover takes other words" 18
 mv "$work/elsewhere" "$work/bin/rattle"
 # A program whose sources changed isn't run either where it can't be built.
 rm "$work/bin/rt" && echo last >"$tree/$code/lib.rt"
