@@ -42,6 +42,9 @@ if [ "$2" = src/lib.rt ]; then
     if [ "$(cat proofs/Lib.antt 2>/dev/null)" = slow ]; then
         echo $$ >"$SLOW" && sleep 20
     fi
+    if [ "$(cat proofs/Lib.antt 2>/dev/null)" = brief ]; then
+        sleep 2
+    fi
     if [ "$(cat proofs/Lib.antt 2>/dev/null)" = wrong ]; then
         echo "this isn't proved"
         exit 1
@@ -168,11 +171,25 @@ rm "$tree/crates/clnp_tool/out/rlib/leaf.basis" "$tree/crates/clnp_tool/out/clnp
 want "behind a build that was killed" 16
 want_proved "behind a build that was killed" leaf $((leaf + 2))
 want_proved "behind a build that was killed" more "$more"
+# Of two starts at once the second waits for the program of the first.
+echo brief >"$tree/crates/leaf/proofs/Lib.antt" && echo together >"$tree/$code/lib.rt"
+"$tree/clnp" >"$work/first" 2>"$work/errors" &
+process=$!
+sleep 0.5
+"$tree/clnp" >"$work/second" 2>"$work/waited"
+wait "$process"
+if ! cmp -s "$work/first" "$work/second" || ! grep -q "this one waits" "$work/waited"; then
+    echo "two starts at once: said '$(cat "$work/first")' and '$(cat "$work/second")'" >&2
+    cat "$work/errors" "$work/waited" >&2
+    failed=1
+fi
+want "two starts at once" 17
+want_proved "two starts at once" leaf $((leaf + 3))
 # Where the kit has its parts at other places, or its prover takes other words, rt builds the program.
 mv "$work/bin/rattle" "$work/elsewhere" && echo elsewhere >"$tree/$code/lib.rt"
-want "a kit with its parts at other places" 17
+want "a kit with its parts at other places" 18
 printf '#!/bin/sh\nexit 2\n' >"$work/bin/rattle" && chmod +x "$work/bin/rattle" && echo strange >"$tree/$code/lib.rt"
-want "a kit whose prover takes other words" 18
+want "a kit whose prover takes other words" 19
 mv "$work/elsewhere" "$work/bin/rattle"
 # A program whose sources changed isn't run either where it can't be built.
 rm "$work/bin/rt" && echo last >"$tree/$code/lib.rt"
