@@ -1,10 +1,10 @@
 ghost use Rattle.std.specs.Prelude.{◌≡◌};
-ghost use Rattle.scenario.specs.ClnpPlan.Configuration.{IsPort};
+ghost use Rattle.scenario_writing.specs.Scenario.ClnpPlan.Configuration.{IsPort};
 
-use scenario::clnp::Kind;
-use scenario::nsaps::{Address, Prefix, Snpa, Target};
-use scenario::routing::Route;
-use scenario::system_plan::{
+use scenario_writing::scenarios::clnp::Kind;
+use scenario_writing::scenarios::nsaps::{Address, Prefix, Snpa, Target};
+use scenario_writing::scenarios::routing::Route;
+use scenario_writing::scenarios::system_plan::{
     Note, PortConfig, Role, Settings, SystemConfig, Why, journal_text, late_text, push_end,
     transmission_text, void_text,
 };

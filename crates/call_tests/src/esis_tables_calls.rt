@@ -1,5 +1,5 @@
-use scenario::hearing::{EsisLimits, Gone, Heard, Neighbour, TableKind, Tables};
-use scenario::nsaps::{Address, Snpa};
+use scenario_writing::scenarios::hearing::{EsisLimits, Gone, Heard, Neighbour, TableKind, Tables};
+use scenario_writing::scenarios::nsaps::{Address, Snpa};
 use std::alloc::Global;
 use std::process::Abort;
 

@@ -1,5 +1,5 @@
-use scenario::nsaps::{Address, Prefix, Snpa};
-use scenario::routing::{Route, RouteRefusal, Routes};
+use scenario_writing::scenarios::nsaps::{Address, Prefix, Snpa};
+use scenario_writing::scenarios::routing::{Route, RouteRefusal, Routes};
 use std::alloc::Global;
 use std::process::Abort;
 

@@ -6,8 +6,8 @@ ghost use Rattle.reassembly.specs.State.{IsWholeSlot};
 
 use crate::reassembly_calls::Step::{Clear, End, Fill, InSlot, Offer, Rest, Undo, Whole};
 use reassembly::{Accept, Key, Segment, Shape, SlotNo, Table, TableLimits};
-use scenario::nsaps::Address;
-use scenario::views::Frame;
+use scenario_writing::scenarios::nsaps::Address;
+use scenario_writing::scenarios::views::Frame;
 use std::alloc::Global;
 use std::process::Abort;
 

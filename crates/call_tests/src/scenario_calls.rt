@@ -1,9 +1,9 @@
-use scenario::base::lines;
-use scenario::system_plan::{Limits, PortConfig, Role, SystemConfig};
-use scenario::{
-    Body, Event, Scenario, ScenarioRefusal, Subnet, from_seed, migrate, read, read_for_run,
-    read_version_1, write,
+use scenario_writing::scenarios::base::lines;
+use scenario_writing::scenarios::system_plan::{Limits, PortConfig, Role, SystemConfig};
+use scenario_writing::scenarios::{
+    Body, Event, Scenario, ScenarioRefusal, Subnet, read, read_for_run, read_version_1,
 };
+use scenario_writing::{from_seed, migrate, write};
 use std::alloc::Global;
 use std::process::Abort;
 

@@ -1,13 +1,9 @@
 -- A scenario runs in version 2 as it does in version 1.
-use Rattle.std.proofs.Common.{◌≡◌, ℕ, if◌then◌else◌, List, [], ◌∷◌, ◌++◌, Option, Some, Result, Ok, Err, IfOk, refl, ap, ◌∙◌}
-use Rattle.scenario.specs.Canonical as canonical
-use Rattle.scenario.specs.Grammar.{BadLine, plan_of_version_1}
-use Rattle.scenario.specs.Migration.{migrated, migration_of}
-use Rattle.scenario.specs.Scenario.{Plan}
-use Rattle.scenario.specs.Words.{◌>>=◌}
-use Rattle.scenario.specs.declared.event.Move.{Move}
-use Rattle.scenario.specs.declared.event.Move.TheVariants.{One, SettleOne, LoseOne, TickOne, TickSystem}
-use Rattle.clnp_network.specs.Migrated.{IsMigrated}
+use Rattle.std.proofs.Common.{◌≡◌, ℕ, if◌then◌else◌, List, [], ◌∷◌, ◌++◌, Option, Some, refl, ap, ◌∙◌}
+use Rattle.scenario_plan.specs.Migrated.{migrated}
+use Rattle.scenario_plan.specs.Plan.{Plan}
+use Rattle.scenario_plan.specs.declared.event.Move.{Move}
+use Rattle.scenario_plan.specs.declared.event.Move.TheVariants.{One, SettleOne, LoseOne, TickOne, TickSystem}
 use Rattle.clnp_network.specs.LabelledNetwork.{Step, LabelledNetwork, after, first_world, is_full, weight}
 use Rattle.clnp_network.specs.Run.{Entry, ending, entries_of, full_weight, journal, last_world, lines_text, moves_made, moves_of_plan, run, stopped_at, text_of, until_full, world_after}
 
@@ -68,12 +64,3 @@ module _ (plan : Plan) where
       ∙ (ap (λ (text : List ℕ). text ++ ending (stopped_at (migrated plan)) (last_world (migrated plan))) (text_alike (first_world plan) (moves_made plan))
       ∙ (ap (λ (stop : Option ℕ). text_of plan (first_world plan) (moves_made plan) ++ ending stop (last_world (migrated plan))) stopped_alike
       ∙ ap (λ (w : LabelledNetwork). text_of plan (first_world plan) (moves_made plan) ++ ending (stopped_at plan) w) last_alike))
-
--- what is so of each plan that a text says
-pub of_each : (text : List ℕ) (reading : Result Plan BadLine) → plan_of_version_1 text ≡ reading
-    → ((plan : Plan) → plan_of_version_1 text ≡ Ok plan → IsMigrated text plan) → IfOk reading (IsMigrated text)
-of_each text (Ok plan) is so = so plan is
-of_each text (Err bad) is so = tt
-
-pub text_migrates : (text : List ℕ) (plan : Plan) → plan_of_version_1 text ≡ Ok plan → migration_of text ≡ Ok (canonical.text_of (migrated plan))
-text_migrates text plan is = ap (λ (r : Result Plan BadLine). r >>= λ p. Ok (canonical.text_of (migrated p))) is

@@ -23,9 +23,9 @@ use Rattle.clnp_machine.specs.System.{SystemState, IsChanged, IsRestarted}
 use Rattle.clnp_machine.specs.Local.{restarted}
 use Rattle.clnp_machine.specs.Step.{as_changed}
 use Rattle.clnp_machine.specs.Unit.{DataUnit}
-use Rattle.scenario.specs.Scenario.{Subnetwork}
-use Rattle.scenario.specs.declared.event.Event.{Event}
-use Rattle.scenario.specs.declared.event.Event.TheVariants as event
+use Rattle.scenario_plan.specs.Plan.{Subnetwork}
+use Rattle.scenario_plan.specs.declared.event.Event.{Event}
+use Rattle.scenario_plan.specs.declared.event.Event.TheVariants as event
 use Rattle.clnp_network.specs.Changed.{ChangesNetwork, KeepsAttachments, KeepsTraffic, resized, unattached, with_frames, with_moved, with_resized, with_routes, with_system}
 use Rattle.clnp_network.specs.LabelledNetwork.{Step, LabelledNetwork, comes, comes_to, event_happens, followed_by, moved, moves_port, moves_port_of, moves_port_on, moves_port_to, nothing, ports_of, removes_route, removes_route_as, removes_route_of, resizes, resizes_each, resizes_on, resizes_port_of, resizes_ports, sets_route, sets_route_as, sets_route_of, tells_of, writes}
 use Rattle.clnp_network.proofs.Sweeps.{change_at, sweep, sweep_all}

@@ -1,5 +1,3 @@
-pub use Rattle.scenario.proofs as Scenario
-mod Worked
 pub mod Texts
 pub mod Alike
 pub mod Sweeps

@@ -4,8 +4,8 @@ use Rattle.std.specs.List.{flat_map}
 use Rattle.clnp_machine.specs.ClnpPlan.Journal.{Line, Noted, Transmitted, Void, Late, Injected, Resized, Received, Lost, ForNobody, line_text}
 use Rattle.clnp_machine.specs.ClnpPlan.declared.journal.Telling.{Telling}
 use Rattle.clnp_machine.specs.ClnpPlan.declared.journal.Telling.TheVariants as telling
-use Rattle.scenario.specs.Scenario.{Plan}
-use Rattle.scenario.specs.declared.event.Move.{Move}
+use Rattle.scenario_plan.specs.Plan.{Plan}
+use Rattle.scenario_plan.specs.declared.event.Move.{Move}
 use Rattle.clnp_network.specs.LabelledNetwork.{LabelledNetwork, after, first_world}
 use Rattle.clnp_network.specs.Run.{Entry, ending, entries_of, entry_text, entry_trace, entry_without, journal, journal_lines, last_world, lines_text, moves_made, run, stopped_at, text_of, told_lines, told_of, trace}
 

@@ -4,8 +4,8 @@ use Rattle.clnp_machine.specs.Forwarding.declared.route.Route.{Route}
 use Rattle.clnp_machine.specs.ClnpPlan.declared.config.PortConfig.{PortConfig}
 use Rattle.clnp_machine.specs.Change.{with_mtu}
 use Rattle.clnp_machine.specs.System.{SystemState}
-use Rattle.scenario.specs.declared.event.Event.{Event}
-use Rattle.scenario.specs.declared.event.Event.TheVariants as event
+use Rattle.scenario_plan.specs.declared.event.Event.{Event}
+use Rattle.scenario_plan.specs.declared.event.Event.TheVariants as event
 use Rattle.clnp_network.specs.LabelledNetwork.{LabelledNetwork, moved}
 
 -- a port takes frames of so many octets where it is on a subnetwork, and is as it was where it is on another one

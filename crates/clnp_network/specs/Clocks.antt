@@ -1,11 +1,11 @@
 -- The clocks of the systems of a network, and how moves take them on.
 use Rattle.std.specs.Prelude.{◌≡◌, ℕ, ◌+◌, ◌≤◌, List, [], ◌∷◌, map, max, slice_get, Option, None, Some}
 use Rattle.std.specs.List.{AllByRecursion}
-use Rattle.scenario.specs.Standing.{AreTogether, changed_at}
-use Rattle.scenario.specs.declared.event.Move.{Move}
-use Rattle.scenario.specs.declared.event.Move.TheVariants.{One, SettleOne, LoseOne, TickOne, TickSystem}
+use Rattle.scenario_plan.specs.Standing.{AreTogether, changed_at}
+use Rattle.scenario_plan.specs.declared.event.Move.{Move}
+use Rattle.scenario_plan.specs.declared.event.Move.TheVariants.{One, SettleOne, LoseOne, TickOne, TickSystem}
 use Rattle.clnp_machine.specs.System.{SystemState}
-use Rattle.scenario.specs.Scenario.{Plan}
+use Rattle.scenario_plan.specs.Plan.{Plan}
 use Rattle.clnp_network.specs.LabelledNetwork.{LabelledNetwork, first_world}
 
 -- each system's clock, which is its moment

@@ -14,12 +14,12 @@ use Rattle.clnp_machine.specs.ClnpPlan.declared.note.Note.{Note}
 use Rattle.clnp_machine.specs.ClnpPlan.declared.note.Note.TheVariants as note
 use Rattle.clnp_machine.specs.Forwarding.declared.route.Route.{Route}
 use Rattle.clnp_machine.specs.Forwarding.Distinct.{has_prefix}
-use Rattle.scenario.specs.Scenario.{Plan, Subnetwork, octets_of}
-use Rattle.scenario.specs.declared.event.Event.{Event}
-use Rattle.scenario.specs.declared.event.Event.TheVariants.{Send, Echo, Deliver, Settle, Lose, Tick, Restart, Congest, Inject}
-use Rattle.scenario.specs.declared.event.Event.TheVariants as event
-use Rattle.scenario.specs.declared.event.Move.{Move}
-use Rattle.scenario.specs.declared.event.Move.TheVariants.{One, SettleOne, LoseOne, TickOne, TickSystem}
+use Rattle.scenario_plan.specs.Plan.{Plan, Subnetwork, octets_of}
+use Rattle.scenario_plan.specs.declared.event.Event.{Event}
+use Rattle.scenario_plan.specs.declared.event.Event.TheVariants.{Send, Echo, Deliver, Settle, Lose, Tick, Restart, Congest, Inject}
+use Rattle.scenario_plan.specs.declared.event.Event.TheVariants as event
+use Rattle.scenario_plan.specs.declared.event.Move.{Move}
+use Rattle.scenario_plan.specs.declared.event.Move.TheVariants.{One, SettleOne, LoseOne, TickOne, TickSystem}
 use Rattle.clnp_machine.specs.Unit.{Maker, DeclaredAt, Outside, DataUnit}
 use Rattle.clnp_machine.specs.Change.{PortIsAt, PortTakes, RouteIsGone, RouteIsSet}
 use Rattle.clnp_machine.specs.Content.{Content, Labelled, Esis, content_of, frame_of}

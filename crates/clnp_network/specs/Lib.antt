@@ -1,7 +1,6 @@
-pub use Rattle.scenario.specs as Scenario
+pub use Rattle.scenario_plan.specs as ScenarioPlan
 pub mod LabelledNetwork
 pub mod Run
 pub mod Clocks
 pub mod Safe
-pub mod Migrated
 pub mod Changed

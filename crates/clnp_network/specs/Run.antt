@@ -4,8 +4,8 @@ use Rattle.std.specs.List.{filter, flat_map}
 use Rattle.clnp_machine.specs.ClnpPlan.Journal.{Line, is_in_journal, told_text, end_text}
 use Rattle.clnp_machine.specs.ClnpPlan.declared.journal.Telling.{Telling}
 use Rattle.clnp_machine.specs.ClnpPlan.declared.journal.Telling.TheVariants as telling
-use Rattle.scenario.specs.Scenario.{Plan, moves_from}
-use Rattle.scenario.specs.declared.event.Move.{Move}
+use Rattle.scenario_plan.specs.Plan.{Plan, moves_from}
+use Rattle.scenario_plan.specs.declared.event.Move.{Move}
 use Rattle.clnp_network.specs.LabelledNetwork.{LabelledNetwork, after, first_world, is_full, weight}
 
 -- a move, and the lines that it wrote

@@ -4,11 +4,11 @@ use Rattle.std.specs.Prelude.{true, ◌≡◌, ◌≢◌, ℕ, ◌+◌, ◌≤�
 use Rattle.clnp_machine.specs.ClnpPlan.declared.config.Limits.{Limits}
 use Rattle.clnp_machine.specs.ClnpPlan.Journal.{Line, Noted}
 use Rattle.clnp_machine.specs.ClnpPlan.declared.note.Note.TheVariants.{Sent, Refused, Got, Report, Echoed, Interference, Alien, Restart}
-use Rattle.scenario.specs.Scenario.{Plan, octets_of}
-use Rattle.scenario.specs.declared.event.Event.{Event}
-use Rattle.scenario.specs.declared.event.Event.TheVariants.{Send}
-use Rattle.scenario.specs.declared.event.Move.{Move}
-use Rattle.scenario.specs.declared.event.Move.TheVariants.{One, SettleOne, LoseOne, TickOne, TickSystem}
+use Rattle.scenario_plan.specs.Plan.{Plan, octets_of}
+use Rattle.scenario_plan.specs.declared.event.Event.{Event}
+use Rattle.scenario_plan.specs.declared.event.Event.TheVariants.{Send}
+use Rattle.scenario_plan.specs.declared.event.Move.{Move}
+use Rattle.scenario_plan.specs.declared.event.Move.TheVariants.{One, SettleOne, LoseOne, TickOne, TickSystem}
 use Rattle.clnp_machine.specs.PduHeader.declared.kind.Kind.TheVariants.{Er, Erq, Erp}
 use Rattle.clnp_machine.specs.PduHeader.Rules.{header_of}
 use Rattle.clnp_machine.specs.PduHeader.Spelling.{header_length}

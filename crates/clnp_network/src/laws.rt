@@ -1,6 +1,6 @@
 //! Laws of runs and their journals. Each is the clause of a function that does nothing; one that calls others has their
 //! clauses for its proof.
-ghost use Rattle.std.specs.Prelude.{◌≡◌, ◌<◌, ◌≤◌, ◌++◌, ℕ, List, IfOk, None, Some, length, slice_get};
+ghost use Rattle.std.specs.Prelude.{◌≡◌, ◌<◌, ◌≤◌, ◌++◌, ℕ, List, None, Some, length, slice_get};
 ghost use Rattle.std.specs.List.{flat_map, list_any};
 ghost use Rattle.clnp_machine.specs.ClnpPlan.Journal.{Noted, Resized};
 ghost use Rattle.clnp_machine.specs.ClnpPlan.declared.config.Limits.{Limits};
@@ -11,14 +11,12 @@ ghost use Rattle.clnp_machine.specs.Forwarding.Distinct.{has_prefix};
 ghost use Rattle.clnp_machine.specs.Forwarding.Setting.{set_in, without};
 ghost use Rattle.clnp_machine.specs.Forwarding.declared.route.Route.{Route};
 ghost use Rattle.clnp_machine.specs.System.{SystemState};
-ghost use Rattle.scenario.specs.Grammar.{plan_of_version_1};
-ghost use Rattle.scenario.specs.Migration.{migrated};
-ghost use Rattle.scenario.specs.Scenario.{Plan, Subnetwork};
-ghost use Rattle.scenario.specs.declared.event.Event.{Event};
-ghost use Rattle.scenario.specs.declared.event.Event.TheVariants as event;
-ghost use Rattle.scenario.specs.declared.event.Move.{Move};
+ghost use Rattle.scenario_plan.specs.Migrated.{migrated};
+ghost use Rattle.scenario_plan.specs.Plan.{Plan, Subnetwork};
+ghost use Rattle.scenario_plan.specs.declared.event.Event.{Event};
+ghost use Rattle.scenario_plan.specs.declared.event.Event.TheVariants as event;
+ghost use Rattle.scenario_plan.specs.declared.event.Move.{Move};
 ghost use Rattle.clnp_network.specs.Changed.{ChangesNetwork, KeepsAttachments, KeepsTraffic, with_frames, with_moved, with_routes, with_system};
-ghost use Rattle.clnp_network.specs.Migrated.{IsMigrated};
 ghost use Rattle.clnp_network.specs.LabelledNetwork.{LabelledNetwork, event_happens, nothing, writes};
 ghost use Rattle.clnp_network.specs.Run.{ending, entries_of, entry_text, entry_trace, entry_without, journal, last_world, moves_made, moves_of_plan, run, stopped_at, text_of, trace};
 
@@ -49,16 +47,6 @@ pub fn migrated_scenarios_run_alike()
     ensures stopped { (plan : Plan) → stopped_at (migrated plan) ≡ stopped_at plan }
     ensures journal { (plan : Plan) → journal (migrated plan) ≡ journal plan }
 {}
-
-/// What becomes of each text of version 1 in version 2 is written, read and run as it should be.
-pub fn texts_of_version_1_migrate()
-    ensures { (text : List ℕ) → IfOk (plan_of_version_1 text) (IsMigrated text) }
-{
-    scenario::laws::accepted_is_fit();
-    scenario::laws::version_1_is_read_alike();
-    scenario::laws::migrated_is_fit();
-    migrated_scenarios_run_alike();
-}
 
 /// After the event `mtu` the subnetwork takes frames of so many octets, and so does each port of each system exactly where it is
 /// on it; all else is as before, and the network's line tells of it. A subnetwork that isn't there changes nothing.

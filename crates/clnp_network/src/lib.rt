@@ -3,9 +3,7 @@
 
 pub mod laws;
 
-/// Scenarios: what a text says, its events and their moves.
+/// Scenarios: what they say, their events and the moves of these.
 pub mod scenarios {
-    pub use scenario::{
-        Body, Code, Event, Move, Scenario, ScenarioRefusal, Subnet, from_seed, laws, migrate, read,
-    };
+    pub use scenario_plan::{Body, Event, Move, Scenario, Subnet};
 }

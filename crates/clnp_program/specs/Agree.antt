@@ -3,8 +3,8 @@ use Rattle.std.specs.Prelude.{◌≡◌, ℕ, ◌≤◌, List, length, map, IfOk
 use Rattle.hex.specs.Hex.{IsBytes}
 use Rattle.network_commands.specs.ClnpBase.Text.{lines_of}
 use Rattle.capture_commands.specs.CommandBase.declared.status.Status.TheVariants.{Done}
-use Rattle.network_commands.specs.Scenario.Grammar.{plan_of_version_1}
-use Rattle.network_commands.specs.ClnpNetwork.Migrated.{IsMigrated}
+use Rattle.network_commands.specs.ScenarioWriting.Scenario.Grammar.{plan_of_version_1}
+use Rattle.network_commands.specs.ClnpSafety.Migrated.{IsMigrated}
 use Rattle.capture_commands.specs.RoundTrip.{EndsPlainly, IsAcceptedCapture, PacksTo, ShowsAs, without_skipped}
 use Rattle.pcap_commands.specs.PcapFrames.File.{Captured}
 use Rattle.pcap_commands.specs.PcapFrames.Making.{frames_in, made_record}

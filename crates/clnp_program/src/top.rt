@@ -1,10 +1,10 @@
 //! The top call: words and input in, output and a status out.
 ghost use Rattle.std.specs.Prelude.{◌≡◌, ◌≢◌, ◌≤◌, ℕ, false, List, [], length, map, IfOk, OnOk, Ok, Err, string_bytes};
 ghost use Rattle.network_commands.specs.ClnpBase.Streams.{Rose};
-ghost use Rattle.network_commands.specs.Scenario.Grammar.{plan_of};
-ghost use Rattle.network_commands.specs.Scenario.Canonical.{text_of};
-ghost use Rattle.network_commands.specs.Scenario.Scenario.{IsClosed};
-ghost use Rattle.network_commands.specs.Scenario.Seeds as seeds;
+ghost use Rattle.network_commands.specs.ScenarioWriting.Scenario.Grammar.{plan_of};
+ghost use Rattle.network_commands.specs.ScenarioWriting.Canonical.{text_of};
+ghost use Rattle.network_commands.specs.ScenarioPlan.Plan.{IsClosed};
+ghost use Rattle.network_commands.specs.ScenarioWriting.Seeds as seeds;
 ghost use Rattle.network_commands.specs.ClnpSafety.Runs.{RunsAreSafe};
 ghost use Rattle.clnp_program.specs.Words.{command_of, reads, Reads};
 ghost use Rattle.clnp_program.specs.Advised.{Advised};

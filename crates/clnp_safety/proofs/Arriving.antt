@@ -15,7 +15,7 @@ use Rattle.clnp_machine.specs.PduHeader.declared.kind.Kind.{Kind}
 use Rattle.clnp_machine.specs.PduHeader.declared.kind.Kind.TheVariants.{Dt, Er, Erq, Erp}
 use Rattle.clnp_machine.specs.ClnpPlan.declared.note.Note.{Note}
 use Rattle.clnp_machine.specs.ClnpPlan.declared.note.Note.TheVariants as note
-use Rattle.clnp_network.specs.Scenario.Scenario.{IsFit, Plan}
+use Rattle.clnp_network.specs.ScenarioPlan.Plan.{IsFit, Plan}
 use Rattle.clnp_machine.specs.Reassembly.Arrival.{data_len, same_key}
 use Rattle.clnp_machine.specs.Reassembly.Buffer as buffer
 use Rattle.clnp_machine.specs.Reassembly.Buffer.{Answer, Buffer, buffer_of, held, is_whole, size_of, without}

@@ -8,8 +8,8 @@ use Rattle.clnp_machine.specs.Nsap.Address.{IsAddress}
 use Rattle.clnp_machine.specs.ClnpPlan.Configuration.{IsAddressedRoute, IsWithin}
 use Rattle.clnp_machine.specs.ClnpPlan.Journal.{Line}
 use Rattle.clnp_machine.specs.Forwarding.declared.route.Route.{Route}
-use Rattle.clnp_network.specs.Scenario.Scenario.{IsFit, Plan}
-use Rattle.clnp_network.specs.Scenario.declared.event.Move.{Move}
+use Rattle.clnp_network.specs.ScenarioPlan.Plan.{IsFit, Plan}
+use Rattle.clnp_network.specs.ScenarioPlan.declared.event.Move.{Move}
 use Rattle.clnp_machine.specs.Change.{Change, PortIsAt, PortTakes, RouteIsGone, RouteIsSet}
 use Rattle.clnp_machine.specs.Unit.{DataUnit}
 use Rattle.clnp_machine.specs.System.{SystemState, IsChanged}

@@ -6,13 +6,13 @@ use Rattle.std.specs.Prelude.{max, option_map, replicate, slice_get, slice_set}
 use Rattle.std.specs.List.{AllByRecursion, range_with_len}
 use Rattle.std.proofs.lemmas.List.{length-map}
 use Rattle.std.proofs.lemmas.Option.{slice_get-map}
-use Rattle.clnp_network.specs.Scenario.Scenario.{IsFit, IsOfVersion1, Plan, Subnetwork, moves_from, moves_of, octets_of}
-use Rattle.clnp_network.specs.Scenario.Standing.{AreTogether, EachMayCome, MayCome, Standing, changed_at, first_clocks, standing_after, standing_of}
-use Rattle.clnp_network.specs.Scenario.declared.event.Event.{Event}
-use Rattle.clnp_network.specs.Scenario.declared.event.Event.TheVariants as event
-use Rattle.clnp_network.specs.Scenario.declared.event.Event.TheVariants.{Send, Echo, Deliver, Settle, Lose, Tick, Restart, Congest, Inject, Mtu, Route, Unroute, Port}
-use Rattle.clnp_network.specs.Scenario.declared.event.Move.{Move}
-use Rattle.clnp_network.specs.Scenario.declared.event.Move.TheVariants.{One, SettleOne, LoseOne, TickOne, TickSystem}
+use Rattle.clnp_network.specs.ScenarioPlan.Plan.{IsFit, IsOfVersion1, Plan, Subnetwork, moves_from, moves_of, octets_of}
+use Rattle.clnp_network.specs.ScenarioPlan.Standing.{AreTogether, EachMayCome, MayCome, Standing, changed_at, first_clocks, standing_after, standing_of}
+use Rattle.clnp_network.specs.ScenarioPlan.declared.event.Event.{Event}
+use Rattle.clnp_network.specs.ScenarioPlan.declared.event.Event.TheVariants as event
+use Rattle.clnp_network.specs.ScenarioPlan.declared.event.Event.TheVariants.{Send, Echo, Deliver, Settle, Lose, Tick, Restart, Congest, Inject, Mtu, Route, Unroute, Port}
+use Rattle.clnp_network.specs.ScenarioPlan.declared.event.Move.{Move}
+use Rattle.clnp_network.specs.ScenarioPlan.declared.event.Move.TheVariants.{One, SettleOne, LoseOne, TickOne, TickSystem}
 use Rattle.clnp_machine.specs.ClnpPlan.Configuration.{SystemConfiguration}
 use Rattle.clnp_machine.specs.ClnpPlan.declared.config.Limits.{Limits}
 use Rattle.clnp_machine.specs.Change.{PortIsAt, PortTakes, RouteIsGone, RouteIsSet}

@@ -2,8 +2,8 @@
 use Rattle.std.proofs.Common.{◌≡◌, refl, ℕ, List, Bool}
 use Rattle.std.specs.Prelude.{slice_get, Option, None, Some}
 use Rattle.clnp_machine.specs.ClnpPlan.declared.note.Note.TheVariants.{Congest}
-use Rattle.clnp_network.specs.Scenario.Scenario.{IsFit, Plan}
-use Rattle.clnp_network.specs.Scenario.declared.event.Move.{Move}
+use Rattle.clnp_network.specs.ScenarioPlan.Plan.{IsFit, Plan}
+use Rattle.clnp_network.specs.ScenarioPlan.declared.event.Move.{Move}
 use Rattle.clnp_machine.specs.System.{SystemState, Input, IsCongested}
 use Rattle.clnp_machine.specs.Step.{congest, step}
 use Rattle.clnp_network.specs.LabelledNetwork.{LabelledNetwork, comes, comes_to, takes_effect}

@@ -15,7 +15,7 @@ use Rattle.clnp_machine.specs.ClnpPlan.declared.ask.Ask.{Ask}
 use Rattle.clnp_machine.specs.ClnpPlan.declared.note.Note.{Note}
 use Rattle.clnp_machine.specs.ClnpPlan.declared.note.Note.TheVariants.{Refused}
 use Rattle.clnp_machine.specs.Reassembly.Buffer.{Buffer, held, is_whole}
-use Rattle.clnp_network.specs.Scenario.Scenario.{Plan}
+use Rattle.clnp_network.specs.ScenarioPlan.Plan.{Plan}
 use Rattle.clnp_machine.specs.Attachment.{Attachment, IsAttached}
 use Rattle.clnp_machine.specs.Identifiers.{Identifiers}
 use Rattle.clnp_machine.specs.Unit.{DataUnit, Packet}

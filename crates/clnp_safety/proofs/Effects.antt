@@ -6,7 +6,7 @@ use Rattle.std.specs.List.{AllByRecursion}
 use Rattle.std.proofs.lemmas.List.Elements.{Contains-append_cases}
 use Rattle.clnp_machine.specs.PduHeader.declared.kind.Kind.{Kind}
 use Rattle.clnp_machine.specs.PduHeader.declared.kind.Kind.TheVariants.{Er, Erq, Erp}
-use Rattle.clnp_network.specs.Scenario.Scenario.{IsFit, Plan}
+use Rattle.clnp_network.specs.ScenarioPlan.Plan.{IsFit, Plan}
 use Rattle.clnp_machine.specs.ClnpPlan.Configuration.{SystemConfiguration}
 use Rattle.clnp_machine.specs.ClnpPlan.declared.note.Note.{Note}
 use Rattle.clnp_machine.specs.Reassembly.Arrival.{Arrival}

@@ -3,7 +3,7 @@ use Rattle.clnp_machine.proofs.ClnpBase.Lists.{AllByRecursion-append}
 use Rattle.std.proofs.Common.{◌≡◌, ◌∙◌, sym, ap, subst, ℕ, List, ◌++◌}
 use Rattle.std.specs.List.{AllByRecursion}
 use Rattle.std.proofs.lemmas.List.{append-nil}
-use Rattle.clnp_network.specs.Scenario.Scenario.{Plan}
+use Rattle.clnp_network.specs.ScenarioPlan.Plan.{Plan}
 use Rattle.clnp_machine.specs.Unit.{DataUnit}
 use Rattle.clnp_machine.specs.System.{SystemState, Effect, then_does}
 use Rattle.clnp_machine.specs.Local.{Deed}

@@ -2,7 +2,7 @@
 use Rattle.std.specs.Prelude.{ℕ, List}
 use Rattle.clnp_machine.specs.Nsap.Address.{IsAddress}
 use Rattle.clnp_machine.specs.EsisPdus.Grammar.{IsPdu}
-use Rattle.clnp_network.specs.Scenario.Scenario.{Plan}
+use Rattle.clnp_network.specs.ScenarioPlan.Plan.{Plan}
 use Rattle.clnp_machine.specs.ClnpPlan.declared.note.Note.{Note}
 use Rattle.clnp_machine.specs.ClnpPlan.declared.note.Note.TheVariants.{Got, Report, Echoed, Interference}
 use Rattle.clnp_machine.specs.Unit.{DataUnit, IsCarriable}

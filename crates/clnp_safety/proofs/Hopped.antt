@@ -8,8 +8,8 @@ use Rattle.clnp_machine.specs.PduHeader.Reading.{rest_of}
 use Rattle.clnp_machine.specs.EsisPdus.Reading as esis_reading
 use Rattle.clnp_machine.specs.EsisPdus.Rules.{why_refused}
 use Rattle.clnp_machine.specs.ClnpPlan.declared.config.PortConfig.{PortConfig}
-use Rattle.clnp_network.specs.Scenario.Scenario.{Plan}
-use Rattle.clnp_network.specs.Scenario.declared.event.Move.{Move}
+use Rattle.clnp_network.specs.ScenarioPlan.Plan.{Plan}
+use Rattle.clnp_network.specs.ScenarioPlan.declared.event.Move.{Move}
 use Rattle.clnp_machine.specs.Unit.{Maker, DeclaredAt, Packet}
 use Rattle.clnp_machine.specs.Content.{Content, Labelled, Esis, Unlabelled, esis_value_in, is_accepted, packet_from_outside, value_in}
 use Rattle.clnp_machine.specs.System.{SystemState, Input, FrameComes, Output, Transmits, SendsEsis, Notes, Effect}

@@ -27,8 +27,8 @@ use Rattle.clnp_machine.specs.EveryStep.{NotesOnly, OnlyHellos}
 use Rattle.clnp_machine.specs.Told.{IsRefusal, NoteIsQuiet, SpellsPdus, TellsOnly}
 use Rattle.clnp_machine.proofs.Hellos.{only_then}
 use Rattle.clnp_machine.proofs.Passing.{packet_does, redirects_are}
-use Rattle.clnp_network.specs.Scenario.Scenario.{IsClosed, IsFit, Plan}
-use Rattle.clnp_network.specs.Scenario.declared.event.Move.{Move}
+use Rattle.clnp_network.specs.ScenarioPlan.Plan.{IsClosed, IsFit, Plan}
+use Rattle.clnp_network.specs.ScenarioPlan.declared.event.Move.{Move}
 use Rattle.clnp_network.specs.LabelledNetwork.{first_world}
 use Rattle.clnp_network.specs.Run.{Entry, entries_of}
 use Rattle.clnp_network.specs.Safe.{NoneIsAlien}

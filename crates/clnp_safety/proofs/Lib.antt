@@ -46,3 +46,5 @@ pub mod Honest
 pub mod Known
 pub mod Hopped
 pub mod Numbered
+pub mod Migrating
+mod Worked

@@ -4,9 +4,9 @@ use Rattle.std.proofs.Common.{◌≡◌, ◌⊎◌, ℕ, inl, inr, List, [], ◌
 use Rattle.std.specs.Prelude.{slice_get, Some}
 use Rattle.std.specs.List.{AllByRecursion}
 use Rattle.std.proofs.lemmas.List.{append-nil}
-use Rattle.clnp_network.specs.Scenario.Scenario.{Plan}
-use Rattle.clnp_network.specs.Scenario.Standing.{AreTogether}
-use Rattle.clnp_network.specs.Scenario.declared.event.Move.{Move}
+use Rattle.clnp_network.specs.ScenarioPlan.Plan.{Plan}
+use Rattle.clnp_network.specs.ScenarioPlan.Standing.{AreTogether}
+use Rattle.clnp_network.specs.ScenarioPlan.declared.event.Move.{Move}
 use Rattle.clnp_machine.specs.ClnpPlan.Configuration.{IsWithin}
 use Rattle.clnp_machine.specs.Unit.{DataUnit}
 use Rattle.clnp_machine.specs.System.{SystemState}

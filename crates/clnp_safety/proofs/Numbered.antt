@@ -16,12 +16,12 @@ use Rattle.clnp_machine.specs.Forwarding.Distinct.{has_prefix}
 use Rattle.clnp_machine.specs.Forwarding.declared.route.Route as forwarding
 use Rattle.clnp_machine.specs.ClnpPlan.declared.config.Role.{Role}
 use Rattle.clnp_machine.specs.ClnpPlan.declared.config.Role.TheVariants.{Host, Router}
-use Rattle.clnp_network.specs.Scenario.Scenario.{Plan, Subnetwork, octets_of}
-use Rattle.clnp_network.specs.Scenario.declared.event.Event.{Event}
-use Rattle.clnp_network.specs.Scenario.declared.event.Event.TheVariants.{Send, Echo, Deliver, Settle, Lose, Tick, Restart, Congest, Inject, Mtu, Route, Unroute, Port}
-use Rattle.clnp_network.specs.Scenario.declared.event.Event.TheVariants as event
-use Rattle.clnp_network.specs.Scenario.declared.event.Move.{Move}
-use Rattle.clnp_network.specs.Scenario.declared.event.Move.TheVariants.{One, SettleOne, LoseOne, TickOne, TickSystem}
+use Rattle.clnp_network.specs.ScenarioPlan.Plan.{Plan, Subnetwork, octets_of}
+use Rattle.clnp_network.specs.ScenarioPlan.declared.event.Event.{Event}
+use Rattle.clnp_network.specs.ScenarioPlan.declared.event.Event.TheVariants.{Send, Echo, Deliver, Settle, Lose, Tick, Restart, Congest, Inject, Mtu, Route, Unroute, Port}
+use Rattle.clnp_network.specs.ScenarioPlan.declared.event.Event.TheVariants as event
+use Rattle.clnp_network.specs.ScenarioPlan.declared.event.Move.{Move}
+use Rattle.clnp_network.specs.ScenarioPlan.declared.event.Move.TheVariants.{One, SettleOne, LoseOne, TickOne, TickSystem}
 use Rattle.clnp_machine.specs.Unit.{Maker, DeclaredAt}
 use Rattle.clnp_machine.specs.Content.{Content, Labelled, Esis, frame_of}
 use Rattle.clnp_machine.specs.Attachment.{Attachment}

@@ -8,8 +8,8 @@ use Rattle.clnp_machine.specs.ClnpPlan.Configuration.{SystemConfiguration}
 use Rattle.clnp_machine.specs.ClnpPlan.Journal.{Line, Noted}
 use Rattle.clnp_machine.specs.ClnpPlan.declared.note.Note.{Note}
 use Rattle.clnp_machine.specs.ClnpPlan.declared.note.Note.TheVariants.{Got}
-use Rattle.clnp_network.specs.Scenario.Scenario.{Plan}
-use Rattle.clnp_network.specs.Scenario.declared.event.Move.{Move}
+use Rattle.clnp_network.specs.ScenarioPlan.Plan.{Plan}
+use Rattle.clnp_network.specs.ScenarioPlan.declared.event.Move.{Move}
 use Rattle.clnp_machine.specs.System.{SystemState, Input, Output, Transmits, SendsEsis, Notes, Effect}
 use Rattle.clnp_machine.specs.Step.{step}
 use Rattle.clnp_machine.specs.EveryStep.{IsForOwn, NotesOnly}

@@ -9,8 +9,8 @@ use Rattle.clnp_machine.specs.ClnpPlan.Configuration.{AreDistinct, SystemConfigu
 use Rattle.clnp_machine.specs.ClnpPlan.Journal.{Line, Noted}
 use Rattle.clnp_machine.specs.ClnpPlan.declared.note.Note.{Note}
 use Rattle.clnp_machine.specs.ClnpPlan.declared.note.Note.TheVariants as note
-use Rattle.clnp_network.specs.Scenario.Scenario.{IsFit, Plan}
-use Rattle.clnp_network.specs.Scenario.declared.event.Move.{Move}
+use Rattle.clnp_network.specs.ScenarioPlan.Plan.{IsFit, Plan}
+use Rattle.clnp_network.specs.ScenarioPlan.declared.event.Move.{Move}
 use Rattle.clnp_machine.specs.Unit.{DataUnit}
 use Rattle.clnp_machine.specs.System.{SystemState, IsRestarted}
 use Rattle.clnp_machine.specs.Step.{restart, step}

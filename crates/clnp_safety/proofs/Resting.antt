@@ -5,8 +5,8 @@ use Rattle.std.specs.Prelude.{slice_get}
 use Rattle.std.specs.List.{AllByRecursion}
 use Rattle.std.proofs.lemmas.List.{append-nil}
 use Rattle.std.proofs.lemmas.List.Elements.{Contains-append_cases}
-use Rattle.clnp_network.specs.Scenario.Scenario.{Plan}
-use Rattle.clnp_network.specs.Scenario.declared.event.Move.{Move}
+use Rattle.clnp_network.specs.ScenarioPlan.Plan.{Plan}
+use Rattle.clnp_network.specs.ScenarioPlan.declared.event.Move.{Move}
 use Rattle.clnp_machine.specs.Identifiers.{Identifiers, restarted}
 use Rattle.clnp_machine.specs.Unit.{DataUnit, DeclaredAt}
 use Rattle.clnp_machine.specs.System.{SystemState, Input, MomentComes, IsRestarted, Output, Transmits, SendsEsis, Notes, Effect}

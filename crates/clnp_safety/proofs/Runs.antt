@@ -4,13 +4,13 @@ use Rattle.std.proofs.Common.{◌≡◌, ℕ, inl, inr, List, [], ◌∷◌, ◌
 use Rattle.std.specs.Prelude.{slice_get, Option, None, Some}
 use Rattle.std.specs.List.{AllByRecursion}
 use Rattle.clnp_machine.specs.ClnpPlan.Journal.{Line, Noted}
-use Rattle.clnp_network.specs.Scenario.Scenario.{InjectsNothing, Plan, IsClosed, IsFit, octets_of}
-use Rattle.clnp_network.specs.Scenario.Standing.{AreTogether}
-use Rattle.clnp_network.specs.Scenario.declared.event.Event.{Event}
-use Rattle.clnp_network.specs.Scenario.declared.event.Event.TheVariants.{Send, Echo, Deliver, Settle, Lose, Tick, Restart, Congest, Inject, Mtu, Route, Unroute, Port}
-use Rattle.clnp_network.specs.Scenario.declared.event.Event.TheVariants as event
-use Rattle.clnp_network.specs.Scenario.declared.event.Move.{Move}
-use Rattle.clnp_network.specs.Scenario.declared.event.Move.TheVariants.{One, SettleOne, LoseOne, TickOne, TickSystem}
+use Rattle.clnp_network.specs.ScenarioPlan.Plan.{InjectsNothing, Plan, IsClosed, IsFit, octets_of}
+use Rattle.clnp_network.specs.ScenarioPlan.Standing.{AreTogether}
+use Rattle.clnp_network.specs.ScenarioPlan.declared.event.Event.{Event}
+use Rattle.clnp_network.specs.ScenarioPlan.declared.event.Event.TheVariants.{Send, Echo, Deliver, Settle, Lose, Tick, Restart, Congest, Inject, Mtu, Route, Unroute, Port}
+use Rattle.clnp_network.specs.ScenarioPlan.declared.event.Event.TheVariants as event
+use Rattle.clnp_network.specs.ScenarioPlan.declared.event.Move.{Move}
+use Rattle.clnp_network.specs.ScenarioPlan.declared.event.Move.TheVariants.{One, SettleOne, LoseOne, TickOne, TickSystem}
 use Rattle.clnp_machine.specs.Unit.{DataUnit, Outside, Packet}
 use Rattle.clnp_machine.specs.Content.{Content, Labelled, Esis, Unlabelled}
 use Rattle.clnp_machine.specs.System.{SystemState}

@@ -8,7 +8,7 @@ use Rattle.clnp_machine.specs.Identifiers.{not_drawn}
 use Rattle.clnp_machine.specs.Unit.{DataUnit, DeclaredAt}
 use Rattle.clnp_machine.specs.System.{SystemState}
 use Rattle.clnp_machine.specs.Local.{is_own, identifier_for, unit_of, not_drawn_note, identifier_refusal, refusal, with_use}
-use Rattle.clnp_network.specs.Scenario.Scenario.{Plan}
+use Rattle.clnp_network.specs.ScenarioPlan.Plan.{Plan}
 use Rattle.clnp_safety.specs.Invariant.{SystemIsSound}
 use Rattle.clnp_safety.specs.StepLaws.{StepLaws}
 use Rattle.clnp_safety.proofs.Draws.{Draws}

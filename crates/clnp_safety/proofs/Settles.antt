@@ -4,7 +4,7 @@ use Rattle.clnp_machine.proofs.ClnpBase.ListSteps.{slice_get_map}
 use Rattle.std.proofs.Common.{◌≡◌, ◌∙◌, ◌≤◌, ℕ, List, ◌+◌, ◌-◌, false, refl, sym, ap, subst, arith, Contains}
 use Rattle.std.specs.Prelude.{slice_get, Option, None, Some}
 use Rattle.std.proofs.lemmas.Option.{slice_get_within}
-use Rattle.clnp_network.specs.Scenario.Scenario.{Plan, IsFit}
+use Rattle.clnp_network.specs.ScenarioPlan.Plan.{Plan, IsFit}
 use Rattle.clnp_machine.specs.EsisTables.declared.fact.Neighbour.{Neighbour}
 use Rattle.clnp_machine.specs.ClnpPlan.Journal.{Line}
 use Rattle.clnp_machine.specs.Unit.{Maker, Packet}

@@ -13,7 +13,7 @@ use Rattle.clnp_machine.specs.ClnpPlan.declared.note.Note.{Note}
 use Rattle.clnp_machine.specs.ClnpPlan.declared.note.Note.TheVariants as note
 use Rattle.clnp_machine.specs.Forwarding.declared.route.Route.{Route}
 use Rattle.clnp_machine.specs.Forwarding.Distinct.{has_prefix}
-use Rattle.clnp_network.specs.Scenario.Scenario.{Subnetwork}
+use Rattle.clnp_network.specs.ScenarioPlan.Plan.{Subnetwork}
 use Rattle.clnp_machine.specs.Change.{Change, PortIsAt, PortTakes, RouteIsGone, RouteIsSet}
 use Rattle.clnp_machine.specs.System.{SystemState, Input, IsChanged, Output}
 use Rattle.clnp_machine.specs.Step.{step}

@@ -3,8 +3,8 @@ use Rattle.std.proofs.Common.{◌≡◌, ℕ, List, [], ◌∷◌, ◌++◌, Boo
 use Rattle.std.specs.Prelude.{if◌then◌else◌, Option, None, Some}
 use Rattle.clnp_machine.specs.ClnpPlan.declared.journal.Telling.{Telling}
 use Rattle.clnp_machine.specs.ClnpPlan.declared.journal.Telling.TheVariants as telling
-use Rattle.clnp_network.specs.Scenario.Scenario.{Plan}
-use Rattle.clnp_network.specs.Scenario.declared.event.Move.{Move}
+use Rattle.clnp_network.specs.ScenarioPlan.Plan.{Plan}
+use Rattle.clnp_network.specs.ScenarioPlan.declared.event.Move.{Move}
 use Rattle.clnp_network.specs.LabelledNetwork.{LabelledNetwork, after, is_full, weight}
 use Rattle.clnp_network.specs.Run.{world_after, told_lines, told_of, text_of, until_full, full_weight}
 use Rattle.clnp_safety.specs.Growth.{IsFront, IsFullAt}

@@ -4,7 +4,7 @@ use Rattle.clnp_machine.proofs.ClnpBase.Sums.{sum_filter}
 use Rattle.std.proofs.Common.{◌≡◌, sym, ap, subst, refl, ℕ, zero, suc, ◌+◌, ◌<◌, ◌≤◌, false, not, List, [], ◌∷◌, ◌++◌, length, Option, None, Some, arith}
 use Rattle.std.specs.List.{AllByRecursion}
 use Rattle.std.proofs.lemmas.List.Elements.{recursion_from_All}
-use Rattle.clnp_network.specs.Scenario.Scenario.{Plan}
+use Rattle.clnp_network.specs.ScenarioPlan.Plan.{Plan}
 use Rattle.clnp_machine.specs.Reassembly.declared.segment.Key.{Key}
 use Rattle.clnp_machine.specs.Reassembly.Arrival.{same_key}
 use Rattle.clnp_machine.specs.Reassembly.Buffer.{Buffer, due, first_carried, held, is_whole, size_of, without}

@@ -4,7 +4,7 @@ use Rattle.std.proofs.Common.{◌≡◌, ◌∙◌, ◌≤◌, ℕ, List, [], �
 use Rattle.std.specs.Prelude.{max, slice_get, Option, None, Some}
 use Rattle.std.specs.List.{range_with_len}
 use Rattle.std.proofs.lemmas.Option.{same_Some}
-use Rattle.clnp_network.specs.Scenario.Scenario.{IsFit, Plan}
+use Rattle.clnp_network.specs.ScenarioPlan.Plan.{IsFit, Plan}
 use Rattle.clnp_machine.specs.ClnpPlan.Journal.{Line}
 use Rattle.clnp_machine.specs.Unit.{DataUnit}
 use Rattle.clnp_machine.specs.System.{SystemState, MomentComes, then_does}

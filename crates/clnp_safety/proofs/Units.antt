@@ -6,7 +6,7 @@ use Rattle.std.proofs.Math.Nat.{le-max_left}
 use Rattle.std.proofs.lemmas.List.Elements.{Contains-append_left, Contains-append_right}
 use Rattle.clnp_machine.specs.Reassembly.Arrival.{Arrival}
 use Rattle.clnp_machine.specs.Reassembly.Buffer.{Buffer}
-use Rattle.clnp_network.specs.Scenario.Scenario.{Plan, IsFit}
+use Rattle.clnp_network.specs.ScenarioPlan.Plan.{Plan, IsFit}
 use Rattle.clnp_machine.specs.ClnpPlan.Configuration.{SystemConfiguration, AreDistinct}
 use Rattle.clnp_machine.specs.ClnpOptions.Edits.{HaveOneForm}
 use Rattle.clnp_machine.specs.PduHeader.declared.kind.Kind.{Kind}

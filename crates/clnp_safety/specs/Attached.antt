@@ -4,7 +4,7 @@ use Rattle.std.specs.List.{AllByRecursion}
 use Rattle.clnp_machine.specs.ClnpPlan.Configuration.{IsWithin}
 use Rattle.clnp_machine.specs.Attachment.{IsAttached}
 use Rattle.clnp_machine.specs.System.{SystemState}
-use Rattle.clnp_network.specs.Scenario.Scenario.{Plan}
+use Rattle.clnp_network.specs.ScenarioPlan.Plan.{Plan}
 use Rattle.clnp_network.specs.LabelledNetwork.{LabelledNetwork}
 
 -- each subnetwork of a plan has an MTU of at least 512

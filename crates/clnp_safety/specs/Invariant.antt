@@ -1,8 +1,8 @@
 -- What holds of each network of a run, beside the entries before it and the units that were made in them.
 use Rattle.std.specs.Prelude.{◌≡◌, ℕ, ◌+◌, ◌≤◌, ◌<◌, ◌⊎◌, false, List, [], length, slice_get, None, Some, AllPairs}
 use Rattle.std.specs.List.{AllByRecursion, Contains}
-use Rattle.clnp_network.specs.Scenario.Scenario.{Plan}
-use Rattle.clnp_network.specs.Scenario.Standing.{AreTogether}
+use Rattle.clnp_network.specs.ScenarioPlan.Plan.{Plan}
+use Rattle.clnp_network.specs.ScenarioPlan.Standing.{AreTogether}
 use Rattle.clnp_machine.specs.ClnpPlan.Configuration.{IsWithin, SystemConfiguration}
 use Rattle.hex.specs.Hex.{IsBytes}
 use Rattle.clnp_machine.specs.Nsap.Address.{IsAddress}

@@ -6,3 +6,4 @@ pub mod StepLaws
 pub mod Outside
 pub mod Attached
 pub mod Runs
+pub mod Migrated

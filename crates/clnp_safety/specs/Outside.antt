@@ -2,9 +2,9 @@
 use Rattle.std.specs.Prelude.{◌≡◌, ◌⊎◌, ℕ, List}
 use Rattle.std.specs.List.{AllByRecursion, Contains}
 use Rattle.clnp_machine.specs.Nsap.declared.target.Target.{Target}
-use Rattle.clnp_network.specs.Scenario.Scenario.{Plan}
-use Rattle.clnp_network.specs.Scenario.declared.event.Event.{Event}
-use Rattle.clnp_network.specs.Scenario.declared.event.Event.TheVariants.{Inject}
+use Rattle.clnp_network.specs.ScenarioPlan.Plan.{Plan}
+use Rattle.clnp_network.specs.ScenarioPlan.declared.event.Event.{Event}
+use Rattle.clnp_network.specs.ScenarioPlan.declared.event.Event.TheVariants.{Inject}
 use Rattle.clnp_machine.specs.Unit.{DataUnit, Maker, Outside, Packet}
 use Rattle.clnp_machine.specs.Content.{Content, Labelled, Esis, Unlabelled, content_of, frame_of}
 use Rattle.clnp_machine.specs.EveryStep.{BreaksNoEsisRule, BreaksNoRule}

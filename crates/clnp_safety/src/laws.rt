@@ -1,16 +1,18 @@
 //! Laws of runs: each holds for every scenario, and its function does nothing; one that calls others has their clauses for
 //! its proof.
-ghost use Rattle.std.specs.Prelude.{◌≡◌, ℕ, List, [], None, Some};
+ghost use Rattle.std.specs.Prelude.{◌≡◌, ℕ, List, [], IfOk, None, Some};
 ghost use Rattle.std.specs.List.{AllByRecursion};
 ghost use Rattle.clnp_machine.specs.ClnpPlan.declared.config.Limits.{Limits};
-ghost use Rattle.clnp_network.specs.Scenario.Scenario.{Plan, IsClosed, IsFit};
-ghost use Rattle.clnp_network.specs.Scenario.declared.event.Move.{Move};
+ghost use Rattle.clnp_network.specs.ScenarioPlan.Plan.{Plan, IsClosed, IsFit};
+ghost use Rattle.clnp_network.specs.ScenarioPlan.declared.event.Move.{Move};
 ghost use Rattle.clnp_network.specs.LabelledNetwork.{LabelledNetwork, after, first_world};
 ghost use Rattle.clnp_network.specs.Clocks.{AreCurrent, NoneIsAhead, StaysTogether, TickTogether, clock_after, clocks_after, clocks_of};
 ghost use Rattle.clnp_network.specs.Run.{Entry, entries_of, full_weight, moves_made, moves_of_plan, run, text_of, until_full, world_after};
 ghost use Rattle.clnp_network.specs.Safe.{CarriesRanges, EachIsFounded, EachWasSent, FramesAreUnbroken, HoldsUnitsApart, HopsCountCopies, IdentifiersRest, IsHonest, IsSend, NoRefusal, IsWithinBudgets, IsWithinLifetimes, KeepsHeaders, KeepsWhatCame, NoInterference, NoneIsAlien, RedirectsChangeOneNextHop, TellsNoRule};
 ghost use Rattle.clnp_safety.specs.Attached.{IsAttachedThroughout};
 ghost use Rattle.clnp_safety.specs.Invariant.{NetworkIsSound};
+ghost use Rattle.scenario_writing.specs.Scenario.Grammar.{plan_of_version_1};
+ghost use Rattle.clnp_safety.specs.Migrated.{IsMigrated};
 ghost use Rattle.clnp_safety.specs.Growth.{IsFront, IsFullAt, IsWithinCopies, TellsItsCopy};
 ghost use Rattle.clnp_safety.specs.Outside.{CarriesRangesOrOutside, EachHasItsMaker, PdusAreUnbroken};
 ghost use Rattle.clnp_safety.specs.Owners.{IsByOwner};
@@ -343,6 +345,16 @@ pub fn attachments_of_runs_are_sound()
         → IsAttachedThroughout plan (world_after plan (first_world plan) moves) }
 {
     laws_of_steps();
+}
+
+/// What becomes of each text of version 1 in version 2 is written, read and run as it should be.
+pub fn texts_of_version_1_migrate()
+    ensures { (text : List ℕ) → IfOk (plan_of_version_1 text) (IsMigrated text) }
+{
+    scenario_writing::laws::accepted_is_fit();
+    scenario_writing::laws::version_1_is_read_alike();
+    scenario_writing::laws::migrated_is_fit();
+    clnp_network::laws::migrated_scenarios_run_alike();
 }
 
 /// What the machine's laws say of each step of a system.

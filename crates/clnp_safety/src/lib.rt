@@ -3,5 +3,3 @@
 #![tactic(auto)]
 
 pub mod laws;
-
-pub use clnp_network::laws::texts_of_version_1_migrate;

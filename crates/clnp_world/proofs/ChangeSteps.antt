@@ -15,7 +15,7 @@ use Rattle.clnp_machine.specs.ClnpPlan.declared.note.Note.TheVariants as note
 use Rattle.clnp_machine.specs.Forwarding.declared.route.Route.{Route}
 use Rattle.clnp_machine.specs.Step.{step}
 use Rattle.clnp_machine.specs.System.{IsChanged, SystemState}
-use Rattle.clnp_network.specs.Scenario.Scenario.{Subnetwork}
+use Rattle.clnp_network.specs.ScenarioPlan.Plan.{Subnetwork}
 use Rattle.clnp_network.specs.LabelledNetwork as network
 use Rattle.clnp_systems.specs.Stands as clnp_systems
 use Rattle.clnp_systems.specs.declared.system.System.{System}

@@ -11,7 +11,7 @@ use Rattle.clnp_machine.specs.ClnpPlan.Journal.{Injected, Line}
 use Rattle.clnp_machine.specs.Content.{Esis, IsCarried, Labelled, Unlabelled, content_of, esis_value_in, frame_of, is_accepted, packet_from_outside, value_in}
 use Rattle.clnp_machine.specs.Unit.{Outside}
 use Rattle.clnp_network.specs.LabelledNetwork as network
-use Rattle.clnp_network.specs.Scenario.Scenario.{Subnetwork}
+use Rattle.clnp_network.specs.ScenarioPlan.Plan.{Subnetwork}
 use Rattle.clnp_world.specs.Lines.{Gains, Taken}
 use Rattle.clnp_world.specs.Seen.{frame_copy, origin_of}
 use Rattle.clnp_world.specs.Stands.{IsMadeWithUnit}

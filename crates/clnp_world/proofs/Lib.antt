@@ -1,4 +1,3 @@
-pub use Rattle.clnp_network.proofs.Scenario
 pub mod ModelSteps
 pub mod LineSteps
 pub mod EachSteps

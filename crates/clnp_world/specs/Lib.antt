@@ -1,4 +1,4 @@
-pub use Rattle.clnp_network.specs.Scenario
+pub use Rattle.clnp_network.specs.ScenarioPlan
 pub use Rattle.clnp_network.specs as ClnpNetwork
 pub mod Lines
 pub mod Seen

@@ -1,6 +1,6 @@
 //! The network between its moves: systems, and the copies of frames on the subnetworks.
 ghost use Rattle.std.specs.Prelude.{◌≡◌, IfOk, map};
-ghost use Rattle.clnp_network.specs.Scenario.Scenario.{Subnetwork};
+ghost use Rattle.clnp_network.specs.ScenarioPlan.Plan.{Subnetwork};
 ghost use Rattle.clnp_network.specs.LabelledNetwork as network;
 ghost use Rattle.clnp_world.specs.Parts.{Holds};
 ghost use Rattle.clnp_world.specs.Stands.{StandEach};

@@ -6,7 +6,7 @@ use Rattle.command_base.specs.declared.status.Status.{Status}
 use Rattle.command_base.specs.declared.status.Status.TheVariants.{Done, BadWords, TooLong, BadInput, WorldFull, ReadFault, WriteFault, LinksGone, NoMemory}
 use Rattle.live_node.specs.LinkBoard.Ports.{PortState}
 use Rattle.scenario.specs.Grammar.{BadLine, run_plan_of}
-use Rattle.scenario.specs.Scenario.{Plan}
+use Rattle.scenario.specs.ScenarioPlan.Plan.{Plan}
 use Rattle.live_node.specs.Ran.{RanOf}
 use Rattle.live_node.specs.declared.run.RunStop.{RunStop}
 use Rattle.live_node.specs.declared.run.RunStop.TheVariants as run_stop

@@ -5,7 +5,7 @@ ghost use Rattle.command_base.specs.ComesAs.{most_input};
 ghost use Rattle.live_commands.specs.Advised.{IsAdvised};
 ghost use Rattle.live_commands.specs.Serves.{RunEndsAs, ServesRun, TextComesTo};
 ghost use Rattle.live_node.specs.Ran.{RanOf};
-ghost use Rattle.scenario.specs.Scenario.{IsForBoard};
+ghost use Rattle.scenario.specs.ScenarioPlan.Plan.{IsForBoard};
 
 use command_base::Status;
 use command_base::base::{Clock, ReadStop, Sink, Source, read_all};

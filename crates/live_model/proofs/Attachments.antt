@@ -8,8 +8,8 @@ use Rattle.clnp_machine.specs.ClnpPlan.declared.config.Role.TheVariants.{Host, R
 use Rattle.clnp_machine.specs.Step.{step}
 use Rattle.clnp_machine.specs.EveryStep.{attached_after}
 use Rattle.clnp_machine.specs.System.{SystemState, Input, AsksToSend, AsksForEcho, FrameComes, MomentComes, IsRestarted, IsCongested, IsChanged}
-use Rattle.scenario.specs.declared.event.Event.{Event}
-use Rattle.scenario.specs.declared.event.Event.TheVariants.{Send, Deliver, Settle, Lose, Tick, TickSystem, Restart, Echo, Congest, Inject, Mtu, Route, Unroute, Port}
+use Rattle.scenario_plan.specs.declared.event.Event.{Event}
+use Rattle.scenario_plan.specs.declared.event.Event.TheVariants.{Send, Deliver, Settle, Lose, Tick, TickSystem, Restart, Echo, Congest, Inject, Mtu, Route, Unroute, Port}
 use Rattle.live_model.specs.Node.{Node, Outcome, Saw, LookFailed, Took, SendFailed}
 use Rattle.live_model.specs.Turn.{Due, asked_by, comes_at, due_behind, due_by}
 use Rattle.live_model.specs.Course.{Turn, course}

@@ -10,20 +10,8 @@ use Rattle.clnp_machine.specs.ClnpOptions.Grammar.{joined}
 use Rattle.clnp_machine.specs.ClnpOptions.Rules.{refusal as options_refusal, form_refusal, list_refusal, place_of, place_of_repeat}
 use Rattle.clnp_machine.specs.PduHeader.Rules.{extent_refusal, fixed_part_refusal, addresses_refusal, lengths_refusal, header_refusal, refusal}
 use Rattle.clnp_machine.specs.EsisPdus.Timer.{seconds_of}
-use Rattle.clnp_machine.specs.Forwarding.declared.route.Route.{Route}
-use Rattle.clnp_machine.specs.ClnpPlan.declared.config.PortConfig.{PortConfig}
-use Rattle.clnp_machine.specs.ClnpPlan.declared.config.Role.TheVariants.{Host, Router}
-use Rattle.clnp_machine.specs.ClnpPlan.declared.config.Settings.{Settings}
-use Rattle.clnp_machine.specs.Nsap.Prefix.{digits_of}
-use Rattle.clnp_machine.specs.Nsap.Text.{octets_of}
 use Rattle.clnp_machine.specs.Nsap.declared.target.Target.TheVariants.{System}
-use Rattle.scenario.specs.Scenario.{Plan}
-use Rattle.scenario.specs.Grammar.{plan_of, plan_at, events_from, counted_event}
-use Rattle.scenario.specs.Declarations.{limits_line, subnet_line, room_word, setting_word, system_line, address_line, port_line, route_line, declaration_line}
-use Rattle.scenario.specs.Events.{wish_word, send_line, deliver_line, tick_line, tick_system_line, ticks_line, restart_line, count_line, event_line}
-use Rattle.scenario.specs.declared.event.Event.{Event}
-use Rattle.scenario.specs.declared.event.Event.TheVariants.{Send, Tick}
-use Rattle.scenario.specs.declared.event.Body.TheVariants.{Hex}
+use Rattle.scenario_plan.proofs.WorkedPlans.{host_plan, router_plan}
 use Rattle.live_model.specs.Node.{Outcome, Saw, LookFailed, Took, SendFailed, Sending}
 use Rattle.live_model.specs.Course.{Course, Runs, IsOver, Breaks, IsNone, Turn, journal, node_run}
 
@@ -55,50 +43,7 @@ taken_in (IsOver node lines) = node.taken
 taken_in (Breaks node lines) = node.taken
 taken_in IsNone = []
 
--- ---- what both have
-
-abbrev silent : Settings
-silent = record {
-  hello = 0;
-  suggest = 0;
-  rhold = 120;
-  slots = 16;
-  segments = 1024;
-  budget = 262144;
-  neighbours = 64;
-  routers = 8;
-  redirects = 64;
-  life = 64;
-  sealed = true;
-}
-
-abbrev of_a : List ℕ
-of_a = 0x47 ∷ 0 ∷ 0x27 ∷ 2 ∷ []
-
-abbrev of_b : List ℕ
-of_b = 0x47 ∷ 0 ∷ 0x27 ∷ 1 ∷ []
-
-abbrev on_subnetwork : ℕ → List ℕ → PortConfig
-on_subnetwork subnet snpa = record { subnet = subnet; snpa = snpa; transit = 1; mtu = 1500 }
-
 -- ---- a host, which is quiet at its start: nobody knows which identifiers it used before
-
-abbrev asks : Event
-asks = Send 0 of_a of_b (Hex (0x68 ∷ 0x69 ∷ [])) (record { life = 64; report = true; segment = true; options = [] })
-
-abbrev host_plan : Plan
-host_plan = record {
-  version = 1;
-  limits = record { age = 256; hold = 60; reuse = 320; skew = 0 };
-  subnets = record { name = codes "lan"; mtu = 1500 } ∷ [];
-  systems =
-      record { name = codes "a"; role = Host; addresses = of_a ∷ []; ports = on_subnetwork 0 (1 ∷ []) ∷ []; routes = []; settings = silent } ∷ [];
-  events = asks ∷ Tick 320 ∷ asks ∷ [];
-}
-
-host_is_read : plan_of (codes "clnp-sim 1\nsubnet lan 1500\nsystem a host hello=0\naddress a 47002702\nport a 0 lan 01\nevents\nsend a 47002702 47002701 hex:6869\ntick 320\nsend a 47002702 47002701 hex:6869\nend\n") ≡ Ok host_plan
-unfolding decode_pairs octets_of digits plan_at events_from counted_event limits_line subnet_line room_word setting_word system_line address_line port_line declaration_line wish_word send_line deliver_line tick_line tick_system_line ticks_line restart_line count_line event_line
-host_is_read = refl
 
 abbrev host_ran : Course
 host_ran = node_run host_plan (true ∷ [])
@@ -109,31 +54,6 @@ unfolding parameters_after encode_with sealed checksum_x checksum_y spelled digi
 quiet_at_first = refl
 
 -- ---- a router between two subnetworks
-
--- a route to the host with this address alone, which is the title too
-abbrev to_host : (address : List ℕ) (port : ℕ) (snpa : List ℕ) → Route
-to_host address port snpa = record { prefix = digits_of address; port = port; snpa = snpa; title = address }
-
-abbrev router_plan : Plan
-router_plan = record {
-  version = 1;
-  limits = record { age = 256; hold = 60; reuse = 320; skew = 0 };
-  subnets = record { name = codes "one"; mtu = 1500 } ∷ record { name = codes "two"; mtu = 1500 } ∷ [];
-  systems =
-      record {
-        name = codes "r";
-        role = Router;
-        addresses = (0x47 ∷ 0 ∷ 0x27 ∷ 0xff ∷ []) ∷ [];
-        ports = on_subnetwork 0 (10 ∷ []) ∷ on_subnetwork 1 (11 ∷ []) ∷ [];
-        routes = to_host of_b 1 (2 ∷ []) ∷ to_host of_a 0 (1 ∷ []) ∷ [];
-        settings = silent;
-      } ∷ [];
-  events = [];
-}
-
-router_is_read : plan_of (codes "clnp-sim 1\nsubnet one 1500\nsubnet two 1500\nsystem r router hello=0\naddress r 470027ff\nport r 0 one 0a\nport r 1 two 0b\nroute r 47002701 1 02 47002701\nroute r 47002702 0 01 47002702\nevents\nend\n") ≡ Ok router_plan
-unfolding decode_pairs octets_of digits plan_at events_from counted_event limits_line subnet_line room_word setting_word system_line address_line port_line route_line declaration_line event_line
-router_is_read = refl
 
 -- a PDU of two octets of data for the host behind its second port, as it comes in at the first
 abbrev came : Outcome

@@ -5,7 +5,7 @@ use Rattle.clnp_machine.specs.ClnpPlan.Configuration.{SystemConfiguration}
 use Rattle.clnp_machine.specs.ClnpPlan.Journal.{end_text}
 use Rattle.clnp_machine.specs.ClnpPlan.declared.config.Limits.{Limits}
 use Rattle.clnp_machine.specs.System.{first_state}
-use Rattle.scenario.specs.Scenario.{Plan}
+use Rattle.scenario_plan.specs.Plan.{Plan}
 use Rattle.live_model.specs.Lines.{NodeLine, lines_text}
 use Rattle.live_model.specs.Node.{Node, Outcome, Played, Goes, Ends, Strays}
 use Rattle.live_model.specs.Turn.{Due, comes_at, due_behind, dues_from, takes_turn}

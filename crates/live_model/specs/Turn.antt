@@ -5,9 +5,9 @@ use Rattle.std.specs.List.{flat_map}
 use Rattle.clnp_machine.specs.ClnpPlan.declared.config.Role.{Role}
 use Rattle.clnp_machine.specs.ClnpPlan.declared.config.Role.TheVariants.{Host, Router}
 use Rattle.clnp_machine.specs.System.{Input, AsksToSend, AsksForEcho, MomentComes}
-use Rattle.scenario.specs.Scenario.{octets_of, ticks_of}
-use Rattle.scenario.specs.declared.event.Event.{Event}
-use Rattle.scenario.specs.declared.event.Event.TheVariants.{Send, Echo, Tick, TickSystem}
+use Rattle.scenario_plan.specs.Plan.{octets_of, ticks_of}
+use Rattle.scenario_plan.specs.declared.event.Event.{Event}
+use Rattle.scenario_plan.specs.declared.event.Event.TheVariants.{Send, Echo, Tick, TickSystem}
 use Rattle.live_model.specs.Node.{Node, Outcome, Played, and_then, come_all, looks_at_each, ports_of}
 
 -- an event, and the moment from which on it is due

@@ -6,8 +6,8 @@ ghost use Rattle.clnp_machine.specs.ClnpPlan.Configuration.{SystemConfiguration}
 ghost use Rattle.clnp_machine.specs.ClnpPlan.declared.config.Limits.{Limits};
 ghost use Rattle.clnp_machine.specs.Identifiers.{IsQuiet, not_drawn};
 ghost use Rattle.clnp_machine.specs.System.{Input};
-ghost use Rattle.scenario.specs.Scenario.{Plan};
-ghost use Rattle.scenario.specs.declared.event.Event.{Event};
+ghost use Rattle.scenario_plan.specs.Plan.{Plan};
+ghost use Rattle.scenario_plan.specs.declared.event.Event.{Event};
 ghost use Rattle.live_model.specs.Lines.{NodeLine};
 ghost use Rattle.live_model.specs.Node.{Goes, Node, Outcome, Played, Strays, and_then};
 ghost use Rattle.live_model.specs.Turn.{Due, comes_at, due_by, dues_from, takes_turn};

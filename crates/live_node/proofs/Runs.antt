@@ -11,7 +11,7 @@ use Rattle.clnp_machine.specs.ClnpPlan.declared.config.PortConfig.{PortConfig}
 use Rattle.link_board.specs.ClnpBase.Moments.{GivesMoment}
 use Rattle.link_board.specs.ClnpBase.Streams.{AppendsFront}
 use Rattle.link_board.specs.Ports.{PortState}
-use Rattle.scenario.specs.Scenario.{Plan}
+use Rattle.scenario_plan.specs.Plan.{Plan}
 use Rattle.live_model.specs.Lines.{lines_text}
 use Rattle.live_model.specs.Node.{Node, Sending}
 use Rattle.live_model.specs.Turn.{Due, dues_from}

@@ -3,7 +3,7 @@ use Rattle.std.specs.Prelude.{ℕ, List, drop}
 use Rattle.std.specs.List.{flat_map}
 use Rattle.clnp_machine.specs.ClnpPlan.declared.config.Role.{Role}
 use Rattle.clnp_machine.specs.System.{Input}
-use Rattle.scenario.specs.declared.event.Event.{Event}
+use Rattle.scenario_plan.specs.declared.event.Event.{Event}
 use Rattle.live_model.specs.Turn.{Due, asked_by, due_by, dues_from}
 use Rattle.live_node.specs.declared.agenda.Agenda.{Agenda}
 

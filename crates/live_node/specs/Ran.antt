@@ -5,7 +5,7 @@ use Rattle.std.specs.List.{AllByRecursion, list_any}
 use Rattle.link_board.specs.ClnpBase.Moments.{GivesMoment}
 use Rattle.link_board.specs.ClnpBase.Streams.{AppendsFront}
 use Rattle.link_board.specs.Ports.{PortState}
-use Rattle.scenario.specs.Scenario.{Plan}
+use Rattle.scenario_plan.specs.Plan.{Plan}
 use Rattle.live_model.specs.Lines.{NodeLine, lines_text}
 use Rattle.live_model.specs.Node.{Node, Sending}
 use Rattle.live_model.specs.Turn.{Due}

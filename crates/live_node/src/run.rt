@@ -11,7 +11,7 @@ ghost use Rattle.live_model.specs.Course.{first_node};
 ghost use Rattle.live_model.specs.Node as model;
 ghost use Rattle.live_model.specs.Turn.{Due, dues_from};
 ghost use Rattle.live_node.specs.Agenda.{dues_of};
-ghost use Rattle.scenario.specs.Scenario.{IsForBoard};
+ghost use Rattle.scenario_plan.specs.Plan.{IsForBoard};
 ghost use Rattle.live_node.specs.Plays.{Stands, attached_of};
 ghost use Rattle.live_node.specs.Ran.{IsBroken, RanOf, RanTo, StopsIn, broken_by, has_any_attached};
 
@@ -20,7 +20,7 @@ use crate::node::{LiveNode, Stop};
 use clnp_machine::system_plan::push_end;
 use link_board::Ports;
 use link_board::base::{Clock, NoMemory, Sink, write_all};
-use scenario::Scenario;
+use scenario_plan::Scenario;
 use std::alloc::Global;
 
 /// Why a run of a live node stopped before its last turn was over.

@@ -5,7 +5,7 @@ ghost use Rattle.clnp_machine.specs.ClnpOptions.Grammar.{FitsKind};
 ghost use Rattle.clnp_machine.specs.ClnpOptions.Parameter.{parameters};
 ghost use Rattle.clnp_machine.specs.System.{AsksForEcho, AsksToSend};
 ghost use Rattle.clnp_systems.specs.Stands as clnp_systems;
-ghost use Rattle.scenario.specs.Scenario.{AsksFairly, octets_of};
+ghost use Rattle.scenario_plan.specs.Plan.{AsksFairly, octets_of};
 ghost use Rattle.live_model.specs.Node as model;
 ghost use Rattle.live_model.specs.Turn.{asked_by, comes_at, due_behind, of_host, takes_turn};
 ghost use Rattle.live_node.specs.Agenda.{asks_by, dues_of};
@@ -19,7 +19,7 @@ use clnp_machine::views::Frame;
 use clnp_systems::Input;
 use link_board::Ports;
 use link_board::base::Sink;
-use scenario::{Body, Event, Scenario};
+use scenario_plan::{Body, Event, Scenario};
 use std::alloc::Global;
 
 /// Names the types that an input may hold: the prover has to be told of them where an input is made. The function does nothing.

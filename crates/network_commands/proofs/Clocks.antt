@@ -3,12 +3,12 @@ use Rattle.std.proofs.Common.{◌≡◌, ℕ, ◌+◌, ◌≤◌, zero, suc, Lis
 use Rattle.std.specs.Prelude.{replicate, slice_get}
 use Rattle.std.specs.List.{sum_by}
 use Rattle.std.proofs.lemmas.List.Sums.{sum-map, sum_by-cons}
-use Rattle.clnp_world.specs.Scenario.Scenario.{Plan, IsFit, moves_of, moves_from, ticks_of}
-use Rattle.clnp_world.specs.Scenario.declared.event.Event.{Event}
-use Rattle.clnp_world.specs.Scenario.declared.event.Event.TheVariants.{Send, Echo, Deliver, Settle, Lose, Tick, Restart, Congest, Inject}
-use Rattle.clnp_world.specs.Scenario.declared.event.Event.TheVariants as event
-use Rattle.clnp_world.specs.Scenario.declared.event.Move.{Move}
-use Rattle.clnp_world.specs.Scenario.declared.event.Move.TheVariants.{One, SettleOne, LoseOne, TickOne, TickSystem}
+use Rattle.clnp_world.specs.ScenarioPlan.Plan.{Plan, IsFit, moves_of, moves_from, ticks_of}
+use Rattle.clnp_world.specs.ScenarioPlan.declared.event.Event.{Event}
+use Rattle.clnp_world.specs.ScenarioPlan.declared.event.Event.TheVariants.{Send, Echo, Deliver, Settle, Lose, Tick, Restart, Congest, Inject}
+use Rattle.clnp_world.specs.ScenarioPlan.declared.event.Event.TheVariants as event
+use Rattle.clnp_world.specs.ScenarioPlan.declared.event.Move.{Move}
+use Rattle.clnp_world.specs.ScenarioPlan.declared.event.Move.TheVariants.{One, SettleOne, LoseOne, TickOne, TickSystem}
 use Rattle.clnp_machine.proofs.Deeds.{step_moment}
 use Rattle.clnp_world.specs.ClnpNetwork.LabelledNetwork.{LabelledNetwork, after, first_world}
 use Rattle.clnp_world.specs.ClnpNetwork.Clocks.{NoneIsAhead, clock_after, clock_with, clocks_of}

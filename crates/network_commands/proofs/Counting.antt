@@ -6,8 +6,8 @@ use Rattle.clnp_machine.specs.ClnpBase.Text.{lines_of, onto_first, begins_with}
 use Rattle.clnp_machine.specs.Nsap.Text.{hex_text}
 use Rattle.clnp_machine.specs.ClnpPlan.Journal.{Line, Noted, Transmitted, Void, Late, Injected, Resized, Received, Lost, ForNobody, line_of, line_text, behind_space, note_words, target_text, octets_word}
 use Rattle.std.specs.Fmt.{decimal}
-use Rattle.clnp_world.specs.Scenario.Scenario.{Plan}
-use Rattle.clnp_world.specs.Scenario.declared.event.Move.{Move}
+use Rattle.clnp_world.specs.ScenarioPlan.Plan.{Plan}
+use Rattle.clnp_world.specs.ScenarioPlan.declared.event.Move.{Move}
 use Rattle.clnp_world.specs.ClnpNetwork.LabelledNetwork.{Step, LabelledNetwork, after}
 use Rattle.clnp_world.specs.ClnpNetwork.Run.{lines_text, text_of, world_after}
 use Rattle.clnp_world.specs.Lines.{both, tally}

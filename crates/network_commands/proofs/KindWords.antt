@@ -23,7 +23,7 @@ use Rattle.clnp_machine.specs.ClnpPlan.declared.note.Note.{Note}
 use Rattle.clnp_machine.specs.ClnpPlan.declared.note.Note.TheVariants.{Sent, Refused, Got, Report, Echoed, Stray, Discard, Held, Repeat, Crowded, Many, NoSlot, Interference, Expired, NotMine, Alien, BadEsis, Hear, Gone, Ignored, Restart, Congest, Route, Unroute, Port}
 use Rattle.clnp_machine.specs.ClnpPlan.declared.note.Why.{Why}
 use Rattle.clnp_machine.specs.ClnpPlan.declared.note.Why.TheVariants as why
-use Rattle.clnp_world.proofs.Scenario.Written.{IsWord, digit_plain, spelled, ends_behind, IsInLine, plain_within, word_in_line, text_of_line, line_cut, first_word, decimal_is_word, IsDigit, decimal_all}
+use Rattle.scenario_writing.proofs.Written.{IsWord, digit_plain, spelled, ends_behind, IsInLine, plain_within, word_in_line, text_of_line, line_cut, first_word, decimal_is_word, IsDigit, decimal_all}
 use Rattle.clnp_world.specs.Lines.{first_of, how_many, kind_of, no_lines, tally}
 use Rattle.network_commands.specs.Storm.{count_of, counts_of, is_of_kind, third_of}
 use Rattle.clnp_machine.proofs.ClnpBase.Reading.{IsWithinLine}

@@ -14,14 +14,14 @@ use Rattle.clnp_machine.specs.ClnpPlan.declared.note.Note.{Note}
 use Rattle.clnp_machine.specs.ClnpPlan.declared.note.Note.TheVariants as note
 use Rattle.clnp_machine.specs.Forwarding.Distinct.{has_prefix}
 use Rattle.clnp_machine.specs.Forwarding.declared.route.Route.{Route}
-use Rattle.clnp_world.proofs.Scenario.Written.{IsWord, name_is_word, IsInLine, word_in_line}
-use Rattle.clnp_world.specs.Scenario.Scenario.{IsFit, Plan, Subnetwork, octets_of}
-use Rattle.clnp_world.specs.Scenario.Words.{is_name}
-use Rattle.clnp_world.specs.Scenario.declared.event.Event.{Event}
-use Rattle.clnp_world.specs.Scenario.declared.event.Event.TheVariants.{Send, Echo, Deliver, Settle, Lose, Tick, Restart, Congest, Inject}
-use Rattle.clnp_world.specs.Scenario.declared.event.Event.TheVariants as event
-use Rattle.clnp_world.specs.Scenario.declared.event.Move.{Move}
-use Rattle.clnp_world.specs.Scenario.declared.event.Move.TheVariants.{One, SettleOne, LoseOne, TickOne, TickSystem}
+use Rattle.scenario_writing.proofs.Written.{IsWord, name_is_word, IsInLine, word_in_line}
+use Rattle.clnp_world.specs.ScenarioPlan.Plan.{IsFit, Plan, Subnetwork, octets_of}
+use Rattle.clnp_world.specs.ScenarioPlan.Names.{is_name}
+use Rattle.clnp_world.specs.ScenarioPlan.declared.event.Event.{Event}
+use Rattle.clnp_world.specs.ScenarioPlan.declared.event.Event.TheVariants.{Send, Echo, Deliver, Settle, Lose, Tick, Restart, Congest, Inject}
+use Rattle.clnp_world.specs.ScenarioPlan.declared.event.Event.TheVariants as event
+use Rattle.clnp_world.specs.ScenarioPlan.declared.event.Move.{Move}
+use Rattle.clnp_world.specs.ScenarioPlan.declared.event.Move.TheVariants.{One, SettleOne, LoseOne, TickOne, TickSystem}
 use Rattle.clnp_machine.specs.Change.{Change, PortIsAt, PortTakes, RouteIsGone, RouteIsSet}
 use Rattle.clnp_machine.specs.Step.{step}
 use Rattle.clnp_machine.specs.EveryStep.{IsNoChange, NotesOnly}

@@ -4,8 +4,8 @@ use Rattle.std.specs.Io.KnownBytes.{Appends}
 use Rattle.std.proofs.KnownBytes.{Appends-nil, Appends-trans, Appends-kept}
 use Rattle.clnp_machine.specs.ClnpBase.Streams.{AppendsFront}
 use Rattle.clnp_machine.specs.ClnpPlan.declared.journal.Telling.{Telling}
-use Rattle.clnp_world.specs.Scenario.Scenario.{Plan}
-use Rattle.clnp_world.specs.Scenario.declared.event.Move.{Move}
+use Rattle.clnp_world.specs.ScenarioPlan.Plan.{Plan}
+use Rattle.clnp_world.specs.ScenarioPlan.declared.event.Move.{Move}
 use Rattle.clnp_world.specs.ClnpNetwork.LabelledNetwork as network
 use Rattle.clnp_world.specs.ClnpNetwork.LabelledNetwork.{after, first_world, is_full, weight}
 use Rattle.clnp_world.specs.ClnpNetwork.Run.{ending, last_world, moves_of_plan, stopped_at, told, told_lines, told_of, until_full, world_after, world_end}

@@ -2,9 +2,9 @@
 use Rattle.std.proofs.Common.{◌≡◌, ℕ, ◌<◌, nat_le, true, false, List, [], ◌∷◌, ◌++◌, Option, Result, Ok, Err, refl, subst, sym, ap, ◌∙◌}
 use Rattle.std.specs.Prelude.{length, replicate}
 use Rattle.clnp_machine.specs.ClnpPlan.declared.journal.Telling.{Telling}
-use Rattle.clnp_world.specs.Scenario.Scenario.{Plan}
-use Rattle.clnp_world.specs.Scenario.declared.event.Move.{Move}
-use Rattle.clnp_world.specs.Scenario.declared.event.Move.TheVariants.{SettleOne}
+use Rattle.clnp_world.specs.ScenarioPlan.Plan.{Plan}
+use Rattle.clnp_world.specs.ScenarioPlan.declared.event.Move.{Move}
+use Rattle.clnp_world.specs.ScenarioPlan.declared.event.Move.TheVariants.{SettleOne}
 use Rattle.clnp_world.specs.ClnpNetwork.LabelledNetwork.{LabelledNetwork, after, is_full, weight}
 use Rattle.clnp_world.specs.ClnpNetwork.Run.{world_after}
 use Rattle.clnp_world.specs.Lines.{both, tally}

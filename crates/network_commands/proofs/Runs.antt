@@ -3,9 +3,9 @@ use Rattle.std.proofs.Common.{◌≡◌, ℕ, ◌+◌, ◌-◌, ◌<◌, Bool, t
 use Rattle.std.specs.Prelude.{replicate}
 use Rattle.std.proofs.lemmas.List.{replicate_more, replicate-append-replicate}
 use Rattle.std.proofs.Math.Seq.{take-suc}
-use Rattle.clnp_world.specs.Scenario.Scenario.{Plan, moves_of, moves_from}
-use Rattle.clnp_world.specs.Scenario.declared.event.Event.{Event}
-use Rattle.clnp_world.specs.Scenario.declared.event.Move.{Move}
+use Rattle.clnp_world.specs.ScenarioPlan.Plan.{Plan, moves_of, moves_from}
+use Rattle.clnp_world.specs.ScenarioPlan.declared.event.Event.{Event}
+use Rattle.clnp_world.specs.ScenarioPlan.declared.event.Move.{Move}
 use Rattle.clnp_world.specs.ClnpNetwork.LabelledNetwork.{LabelledNetwork, after, is_full, weight}
 use Rattle.clnp_world.specs.ClnpNetwork.Run.{full_weight, until_full, world_after}
 pub use Rattle.clnp_safety.proofs.Stops.{all_are_made, told_of_more}

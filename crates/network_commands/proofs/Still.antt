@@ -4,9 +4,9 @@ use Rattle.std.specs.Prelude.{replicate}
 use Rattle.std.proofs.lemmas.Bool.{leb-true}
 use Rattle.std.proofs.lemmas.Option.{slice_get_past}
 use Rattle.clnp_machine.specs.ClnpPlan.declared.journal.Telling.{Telling}
-use Rattle.clnp_world.specs.Scenario.Scenario.{Plan}
-use Rattle.clnp_world.specs.Scenario.declared.event.Move.{Move}
-use Rattle.clnp_world.specs.Scenario.declared.event.Move.TheVariants.{SettleOne}
+use Rattle.clnp_world.specs.ScenarioPlan.Plan.{Plan}
+use Rattle.clnp_world.specs.ScenarioPlan.declared.event.Move.{Move}
+use Rattle.clnp_world.specs.ScenarioPlan.declared.event.Move.TheVariants.{SettleOne}
 use Rattle.clnp_world.specs.ClnpNetwork.LabelledNetwork.{Copy, Step, LabelledNetwork, after, is_full, nothing, settle_copy, weight}
 use Rattle.clnp_world.specs.ClnpNetwork.Run.{full_weight, told_lines, told_of, world_after}
 use Rattle.clnp_world.specs.Lines.{both, no_lines, tally}

@@ -5,9 +5,9 @@ use Rattle.std.specs.Io.KnownBytes.{Appends, Keeps}
 use Rattle.std.proofs.KnownBytes.{Appends-nil, Keeps-refl}
 use Rattle.clnp_machine.specs.ClnpBase.Streams.{AppendsFront}
 use Rattle.clnp_machine.specs.ClnpPlan.declared.journal.Telling.TheVariants as telling
-use Rattle.clnp_world.specs.Scenario.Scenario.{IsFit, Plan}
-use Rattle.clnp_world.specs.Scenario.Seeds.{storm}
-use Rattle.clnp_world.specs.Scenario.declared.event.Move.{Move}
+use Rattle.clnp_world.specs.ScenarioPlan.Plan.{IsFit, Plan}
+use Rattle.scenario_writing.specs.Seeds.{storm}
+use Rattle.clnp_world.specs.ScenarioPlan.declared.event.Move.{Move}
 use Rattle.clnp_world.specs.ClnpNetwork.LabelledNetwork as network
 use Rattle.clnp_world.specs.ClnpNetwork.LabelledNetwork.{first_world}
 use Rattle.clnp_world.specs.ClnpNetwork.Run.{journal, last_world, moves_of_plan, stopped_at, text_of, world_after, world_end}

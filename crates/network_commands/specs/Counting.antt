@@ -1,7 +1,7 @@
 -- What the parts of the command `storm` come to: counting the lines of moves, and summing a run up.
 use Rattle.std.specs.Prelude.{◌≡◌, ℕ, List, [], ◌∷◌, None, Some, Result, Ok, Err}
-use Rattle.clnp_world.specs.Scenario.Scenario.{Plan}
-use Rattle.clnp_world.specs.Scenario.declared.event.Move.{Move}
+use Rattle.clnp_world.specs.ScenarioPlan.Plan.{Plan}
+use Rattle.clnp_world.specs.ScenarioPlan.declared.event.Move.{Move}
 use Rattle.clnp_world.specs.ClnpNetwork.LabelledNetwork as network
 use Rattle.clnp_world.specs.ClnpNetwork.LabelledNetwork.{after}
 use Rattle.clnp_world.specs.ClnpNetwork.Run.{world_after, full_weight, moves_of_plan, stopped_at}

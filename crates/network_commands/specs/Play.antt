@@ -3,8 +3,8 @@ use Rattle.std.specs.Prelude.{◌≡◌, ℕ, List, ◌++◌, Option, None, Some
 use Rattle.std.specs.Io.KnownBytes.{Appends, Keeps}
 use Rattle.clnp_machine.specs.ClnpBase.Streams.{AppendsFront}
 use Rattle.clnp_machine.specs.ClnpPlan.declared.journal.Telling.{Telling}
-use Rattle.clnp_world.specs.Scenario.Scenario.{Plan}
-use Rattle.clnp_world.specs.Scenario.declared.event.Move.{Move}
+use Rattle.clnp_world.specs.ScenarioPlan.Plan.{Plan}
+use Rattle.clnp_world.specs.ScenarioPlan.declared.event.Move.{Move}
 use Rattle.clnp_world.specs.ClnpNetwork.LabelledNetwork as network
 use Rattle.clnp_world.specs.ClnpNetwork.Run.{told, told_of, world_after, full_weight, stopped_at, until_full}
 use Rattle.clnp_world.specs.State.{WorldState}

@@ -1,8 +1,8 @@
 -- Playing moves, whatever is made of their lines.
 use Rattle.std.specs.Prelude.{◌≡◌, ℕ, List, Option, Result, Ok, Err}
 use Rattle.clnp_machine.specs.ClnpPlan.declared.journal.Telling.{Telling}
-use Rattle.clnp_world.specs.Scenario.Scenario.{Plan}
-use Rattle.clnp_world.specs.Scenario.declared.event.Move.{Move}
+use Rattle.clnp_world.specs.ScenarioPlan.Plan.{Plan}
+use Rattle.clnp_world.specs.ScenarioPlan.declared.event.Move.{Move}
 use Rattle.clnp_world.specs.ClnpNetwork.LabelledNetwork as network
 use Rattle.clnp_world.specs.State.{WorldState}
 use Rattle.clnp_world.specs.declared.lines.Counts.{Counts}

@@ -3,9 +3,9 @@ use Rattle.std.specs.Prelude.{◌≡◌, ℕ, List, [], Option, None, Some, Resu
 use Rattle.std.specs.Io.KnownBytes.{Appends}
 use Rattle.clnp_machine.specs.ClnpBase.Streams.{AppendsFront}
 use Rattle.clnp_machine.specs.ClnpPlan.declared.journal.Telling.{Telling}
-use Rattle.clnp_world.specs.Scenario.Scenario.{Plan}
-use Rattle.clnp_world.specs.Scenario.Grammar.{BadLine, plan_of}
-use Rattle.clnp_world.specs.Scenario.Migration.{migration_of}
+use Rattle.clnp_world.specs.ScenarioPlan.Plan.{Plan}
+use Rattle.scenario_writing.specs.Scenario.Grammar.{BadLine, plan_of}
+use Rattle.scenario_writing.specs.Migration.{migration_of}
 use Rattle.clnp_world.specs.ClnpNetwork.Run.{told, stopped_at}
 use Rattle.command_base.specs.declared.status.Status.{Status}
 use Rattle.command_base.specs.declared.status.Status.TheVariants.{Done, BadInput, WorldFull}

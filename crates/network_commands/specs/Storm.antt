@@ -4,8 +4,8 @@ use Rattle.std.specs.List.{filter}
 use Rattle.std.specs.Fmt.{decimal}
 use Rattle.std.specs.Str.{bytes_eq}
 use Rattle.clnp_machine.specs.ClnpBase.Text.{lines_of, words_of}
-use Rattle.clnp_world.specs.Scenario.Scenario.{Plan}
-use Rattle.clnp_world.specs.Scenario.Seeds.{storm}
+use Rattle.clnp_world.specs.ScenarioPlan.Plan.{Plan}
+use Rattle.scenario_writing.specs.Seeds.{storm}
 use Rattle.clnp_world.specs.ClnpNetwork.Run.{journal, last_world, stopped_at}
 use Rattle.clnp_world.specs.declared.lines.Counts.{Counts}
 use Rattle.network_commands.specs.declared.storm.Summary.{Summary}

@@ -1,7 +1,7 @@
 -- The ticks among moves, and the time that a simulated network has for them.
 use Rattle.std.specs.Prelude.{ℕ, ◌+◌, ◌<◌, ◌^◌, List, [], ◌∷◌}
-use Rattle.clnp_world.specs.Scenario.declared.event.Move.{Move}
-use Rattle.clnp_world.specs.Scenario.declared.event.Move.TheVariants.{One, SettleOne, LoseOne, TickOne, TickSystem}
+use Rattle.clnp_world.specs.ScenarioPlan.declared.event.Move.{Move}
+use Rattle.clnp_world.specs.ScenarioPlan.declared.event.Move.TheVariants.{One, SettleOne, LoseOne, TickOne, TickSystem}
 use Rattle.clnp_world.specs.ClnpNetwork.LabelledNetwork as network
 use Rattle.clnp_world.specs.State.{WorldState}
 use Rattle.clnp_world.specs.Stands.{Stands}

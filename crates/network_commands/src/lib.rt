@@ -8,7 +8,6 @@ pub mod sim;
 pub mod storm;
 
 pub use clnp_machine::system_plan::Telling;
-pub use clnp_world::scenarios;
 pub use command_base::{Status, code};
 
 /// Octets, their sources and sinks, and clocks.
@@ -19,10 +18,15 @@ pub mod base {
     };
 }
 
+/// Scenario texts, and laws of them.
+pub mod scenarios {
+    pub use scenario_writing::laws;
+    pub use scenario_writing::scenarios::{Code, Scenario, read};
+}
+
 /// What is so of the runs of every scenario, and of texts of version 1.
 pub mod safety {
-    pub use clnp_safety::laws::runs_are_safe;
-    pub use clnp_safety::texts_of_version_1_migrate;
+    pub use clnp_safety::laws::{runs_are_safe, texts_of_version_1_migrate};
 }
 
 /// A network of systems, move by move.

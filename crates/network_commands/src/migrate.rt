@@ -5,9 +5,9 @@ ghost use Rattle.command_base.specs.ComesAs.{ComesAs, most_input};
 ghost use Rattle.network_commands.specs.RunTasks.{migrate_task};
 
 use crate::sim::few_lines;
-use clnp_world::scenarios::ScenarioRefusal;
 use command_base::Status;
 use command_base::base::{Sink, write_all};
+use scenario_writing::scenarios::ScenarioRefusal;
 use std::alloc::Global;
 
 /// Writes the text of a scenario of version 1 in version 2. Nothing is written before the whole text was accepted.
@@ -18,7 +18,7 @@ pub fn migrate<K: Sink>(alloc: Global, text: &[u8], sink: &mut K) -> Status
     ensures failed { result ≡ Status.WriteFault → Rose (K.faults sink.old) (K.faults sink.new) }
 {
     few_lines();
-    match clnp_world::scenarios::migrate(alloc, text) {
+    match scenario_writing::migrate(alloc, text) {
         Ok(migrated) => match write_all(sink, migrated.as_slice()) {
             Ok(()) => Status::Done,
             Err(_) => Status::WriteFault,

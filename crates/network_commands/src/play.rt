@@ -1,7 +1,7 @@
 //! Playing a scenario: its moves are made one after another, whatever becomes of their lines.
 ghost use Rattle.std.specs.Prelude.{◌≡◌, ◌≤◌, ◌++◌, List, Option, [], ◌∷◌, ℕ, replicate, Err, OnOk};
 ghost use Rattle.clnp_machine.specs.ClnpBase.Streams.{Rose};
-ghost use Rattle.clnp_world.specs.Scenario.Scenario.{moves_of};
+ghost use Rattle.clnp_world.specs.ScenarioPlan.Plan.{moves_of};
 ghost use Rattle.clnp_world.specs.ClnpNetwork.LabelledNetwork as network;
 ghost use Rattle.clnp_world.specs.ClnpNetwork.Run.{moves_of_plan, world_after};
 ghost use Rattle.clnp_world.specs.Stands.{Stands};

@@ -2,7 +2,7 @@
 ghost use Rattle.std.specs.Prelude.{◌≡◌, ◌≤◌, ◌++◌, List, Option, [], ◌∷◌, ℕ, length, Err, OnOk};
 ghost use Rattle.clnp_machine.specs.ClnpBase.Streams.{Rose};
 ghost use Rattle.clnp_machine.specs.ClnpBase.Text.{lines_of};
-ghost use Rattle.clnp_world.specs.Scenario.Scenario.{IsFit};
+ghost use Rattle.clnp_world.specs.ScenarioPlan.Plan.{IsFit};
 ghost use Rattle.clnp_world.specs.ClnpNetwork.LabelledNetwork as network;
 ghost use Rattle.clnp_world.specs.ClnpNetwork.Run.{world_after, world_end};
 ghost use Rattle.clnp_world.specs.Stands.{Stands};
@@ -14,10 +14,11 @@ ghost use Rattle.network_commands.specs.Time.{HasTime};
 
 use crate::play::{Player, Stop, play_events};
 use clnp_machine::system_plan::Telling;
-use clnp_world::scenarios::{Move, Scenario, ScenarioRefusal};
+use clnp_world::scenarios::{Move, Scenario};
 use clnp_world::{World, WorldRefusal};
 use command_base::base::{Failed, Sink};
 use command_base::{Status, flush, flush_full};
+use scenario_writing::scenarios::{ScenarioRefusal, read};
 use std::alloc::Global;
 
 /// Writes the journal, or the trace, of the scenario that a text is.
@@ -28,8 +29,8 @@ pub fn sim<K: Sink>(alloc: Global, telling: Telling, text: &[u8], sink: &mut K) 
     ensures failed { result ≡ Status.WriteFault → Rose (K.faults sink.old) (K.faults sink.new) }
 {
     few_lines();
-    clnp_world::scenarios::laws::accepted_is_fit();
-    match clnp_world::scenarios::read(alloc, text) {
+    scenario_writing::laws::accepted_is_fit();
+    match read(alloc, text) {
         Ok(scenario) => match play(alloc, &scenario, telling, sink) {
             Ok(()) => Status::Done,
             Err(stop) => stop.status(),

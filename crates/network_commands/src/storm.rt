@@ -1,8 +1,8 @@
 //! The command `storm`: what a run of the scenario of a seed counts.
 ghost use Rattle.std.specs.Prelude.{◌≡◌, ◌≤◌, ◌++◌, OnOk, Err};
 ghost use Rattle.clnp_machine.specs.ClnpBase.Streams.{Rose};
-ghost use Rattle.clnp_world.specs.Scenario.Scenario.{IsFit};
-ghost use Rattle.clnp_world.specs.Scenario.Seeds as seeds;
+ghost use Rattle.clnp_world.specs.ScenarioPlan.Plan.{IsFit};
+ghost use Rattle.scenario_writing.specs.Seeds as seeds;
 ghost use Rattle.clnp_world.specs.ClnpNetwork.LabelledNetwork as network;
 ghost use Rattle.clnp_world.specs.Stands.{Stands};
 ghost use Rattle.command_base.specs.ByLine.{EndOf};
@@ -13,10 +13,11 @@ ghost use Rattle.network_commands.specs.Counting.{SumOf};
 ghost use Rattle.network_commands.specs.Playing.{Tallies};
 
 use crate::play::{Player, Stop, play_events};
-use clnp_world::scenarios::{Move, Scenario, from_seed};
+use clnp_world::scenarios::{Move, Scenario};
 use clnp_world::{Counts, World, WorldRefusal};
 use command_base::base::{NoMemory, Sink, push, write_all};
 use command_base::{Status, push_number};
+use scenario_writing::from_seed;
 use std::alloc::Global;
 
 /// What a run of the scenario of a seed comes to.

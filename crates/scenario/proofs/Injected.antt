@@ -3,8 +3,8 @@ use Rattle.std.proofs.Common.{ℕ, List, nat_le, length, IfOk}
 use Rattle.clnp_plan.specs.Nsap.declared.target.Target.{Target}
 use Rattle.scenario.specs.Words.{declared_word, address_word, four_words, frame_word, target_word}
 use Rattle.scenario.specs.Events.{inject_line}
-use Rattle.scenario.specs.declared.event.Event.{Event}
-use Rattle.scenario.specs.declared.event.Event.TheVariants.{Inject}
+use Rattle.scenario_plan.specs.declared.event.Event.{Event}
+use Rattle.scenario_plan.specs.declared.event.Event.TheVariants.{Inject}
 use Rattle.scenario.proofs.Behind.{behind_result, behind_found, behind_wanted}
 
 pub inject_such : (subnets words : List (List ℕ)) (P : Event → Type 0) → ((subnet : ℕ) (from : List ℕ) (to : Target) (octets : List ℕ) → P (Inject subnet from to octets))

@@ -1,5 +1,6 @@
 pub use Rattle.clnp_plan.proofs.ClnpBase
 pub mod Readings
+pub mod Stepping
 pub mod Lists
 pub mod Clocks
 pub mod Events
@@ -8,7 +9,6 @@ pub mod Apart
 pub mod Kept
 pub mod Prefixes
 pub mod Numbers
-pub mod Patterns
 pub mod Injected
 pub mod Changed
 pub mod Placed
@@ -21,19 +21,8 @@ pub mod Outside
 pub mod Said
 pub mod Changes
 pub mod Accepted
-pub mod Seeded
-pub mod Written
-pub mod WrittenEvents
-pub mod WrittenText
-pub mod WrittenSettings
-pub mod WrittenPrefixes
-pub mod Stages
-pub mod DeclaredLines
-pub mod WrittenDeclarations
-pub mod ReadBack
 pub mod Versions
-mod Worked
-pub mod Pieces
 pub mod Alone
 pub mod LiveLines
 pub mod ForRun
+mod Worked

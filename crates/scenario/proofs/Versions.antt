@@ -1,19 +1,18 @@
--- Texts of version 1 beside those of all versions, and scenarios of version 1 in version 2.
+-- Texts of version 1 beside those of all versions.
 use Rattle.std.proofs.Common.{◌≡◌, ◌≢◌, ◌↔◌, inl, inr, ℕ, ◌+◌, ◌-◌, ◌==◌, if◌then◌else◌, List, [], ◌∷◌, map, codes, None, Result, Ok, Err, IfOk, refl, sym, ap, ◌∙◌, arith}
 use Rattle.std.specs.Str.{bytes_eq}
 use Rattle.std.proofs.lemmas.Bool.{cases_Bool, eq-eqb, eqb-true, ne_eqb, true≢false}
 use Rattle.std.proofs.lemmas.Result.{IfOk-at_ok}
 use Rattle.clnp_plan.specs.ClnpBase.Text.{lines_of, is_skipped}
-use Rattle.scenario.specs.Canonical.{text_of}
 use Rattle.scenario.specs.Codes.{number_of}
 use Rattle.scenario.specs.Grammar.{BadLine, ReadTo, at_line, newest_version, version_of, header_from, declarations_from, plan_behind, plan_at, plan_of, plan_of_version_1, counted_event, events_from}
 use Rattle.scenario.specs.Declarations.{nothing_declared, limits_of, configuration_of}
 use Rattle.scenario.specs.Events.{first_scene, nothing_counted}
-use Rattle.scenario.specs.Migration.{IsReadAlike, migrated, migration_of}
-use Rattle.scenario.specs.Scenario.{IsFit, Plan}
+use Rattle.scenario.specs.Versions.{IsReadAlike}
+use Rattle.scenario_plan.specs.Plan.{Plan}
 use Rattle.scenario.specs.Words.{◌>>=◌, found}
 use Rattle.scenario.specs.declared.code.Code.TheVariants as bad
-use Rattle.scenario.proofs.Behind.{behind_result, is_within}
+use Rattle.scenario.proofs.Behind.{behind_result}
 
 -- the line of a header is a bad one
 abbrev bad_header : (line : ℕ) → Result (ReadTo ℕ) BadLine
@@ -126,45 +125,3 @@ module _ (text : List ℕ) where
     pub taken_alike : (plan_of_version_1 text ≡ Ok plan) ↔ ((plan_of text ≡ Ok plan) × (plan.version ≡ 1))
     taken_alike =
         (λ read. taken (header_from newest_version 1 (lines_of text)) is_read read, λ both. of_first (header_from newest_version 1 (lines_of text)) is_read both.0 both.1)
-
--- ---- scenarios of version 1 in version 2
-
-pub migrated_fit : (plan : Plan) → IsFit plan → IsFit (migrated plan)
-migrated_fit plan fit =
-    record {
-      version = is_within 1 2 2 (omega arith) (omega arith);
-      limits = fit.limits;
-      together = λ one. absurd (omega (arith, one));
-      systems = fit.systems;
-      named_subnets = fit.named_subnets;
-      named_systems = fit.named_systems;
-      subnet_names = fit.subnet_names;
-      system_names = fit.system_names;
-      few_subnets = fit.few_subnets;
-      few_systems = fit.few_systems;
-      mtus = fit.mtus;
-      snpas = fit.snpas;
-      ports = fit.ports;
-      different = fit.different;
-      prefixes = fit.prefixes;
-      addresses = fit.addresses;
-      each_address = fit.each_address;
-      ticks = fit.ticks;
-      asks = fit.asks;
-      formed = fit.formed;
-      places = fit.places;
-      senders = fit.senders;
-      congested = fit.congested;
-      injected = fit.injected;
-      of_version = λ one. absurd (omega (arith, one));
-      changes = fit.changes;
-      stand = fit.stand;
-      said = fit.said;
-      few_events = fit.few_events;
-      passed = fit.passed;
-    }
-
--- what is written of a scenario of version 1 becomes what is written of it in version 2
-pub text_migrates : (plan : Plan) → plan_of (text_of plan) ≡ Ok plan → plan.version ≡ 1 → migration_of (text_of plan) ≡ Ok (text_of (migrated plan))
-text_migrates plan read one =
-    ap (λ (r : Result Plan BadLine). r >>= λ p. Ok (text_of (migrated p))) ((taken_alike (text_of plan) plan).1 (read, one))

@@ -3,14 +3,11 @@ pub use Rattle.clnp_plan.specs.Nsap
 pub use Rattle.clnp_plan.specs.ClnpOptions
 pub use Rattle.clnp_plan.specs.PduHeader
 pub use Rattle.clnp_plan.specs as ClnpPlan
-pub mod Standing
-pub mod Scenario
+pub use Rattle.scenario_plan.specs as ScenarioPlan
 pub mod Codes
 pub mod Grammar
 pub mod Refusal
 pub mod Declarations
 pub mod Events
 pub mod Words
-pub mod Seeds
-pub mod Canonical
-pub mod Migration
+pub mod Versions

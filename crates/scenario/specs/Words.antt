@@ -11,10 +11,11 @@ use Rattle.clnp_plan.specs.Nsap.declared.target.Target.{Target}
 use Rattle.clnp_plan.specs.Nsap.declared.target.Target.TheVariants.{System, EndSystems, Routers}
 use Rattle.clnp_plan.specs.Nsap.Text.{octets_of}
 use Rattle.clnp_plan.specs.Nsap.declared.fault.NsapFault.{NsapFault}
+pub use Rattle.scenario_plan.specs.Names.{is_letter, is_letter_or_digit, begins_with_letter, is_name}
 use Rattle.scenario.specs.declared.code.Code.{Code}
 use Rattle.scenario.specs.declared.code.Code.TheVariants as bad
-use Rattle.scenario.specs.declared.event.Body.{Body}
-use Rattle.scenario.specs.declared.event.Body.TheVariants.{Hex, Pattern}
+use Rattle.scenario_plan.specs.declared.event.Body.{Body}
+use Rattle.scenario_plan.specs.declared.event.Body.TheVariants.{Hex, Pattern}
 
 infixl 10 ◌>>=◌
 abbrev pub ◌>>=◌ : {A B E : Type 0} → Result A E → (A → Result B E) → Result B E
@@ -34,20 +35,6 @@ found (Some x) code = Ok x
 -- this very word
 abbrev pub literal : List ℕ → List ℕ → Result (Unit {0}) Code
 literal text word = wanted (bytes_eq word text) bad.Syntax
-
-abbrev pub is_letter : ℕ → Bool
-is_letter c = nat_le 97 c && nat_le c 122
-
-abbrev pub is_letter_or_digit : ℕ → Bool
-is_letter_or_digit c = is_letter c || is_digit c
-
-abbrev pub begins_with_letter : List ℕ → Bool
-begins_with_letter [] = false
-begins_with_letter (c ∷ cs) = is_letter c
-
--- up to 16 letters a to z and digits, the first of them a letter
-abbrev pub is_name : List ℕ → Bool
-is_name word = begins_with_letter word && list_all is_letter_or_digit word && nat_le (length word) 16
 
 abbrev pub name_word : List ℕ → Result (List ℕ) Code
 name_word word = wanted (is_name word) bad.Syntax >>= λ _. Ok word

@@ -2,12 +2,10 @@
 ghost use Rattle.std.specs.Prelude.{◌≡◌, ◌≤◌, map, length, slice_get};
 ghost use Rattle.clnp_plan.specs.ClnpBase.Text.{words_of};
 ghost use Rattle.scenario.specs.Events.{change_line, has_number, mtu_line, port_line, port_word, route_line, scene_of, tick_system_line, unroute_line};
-ghost use Rattle.scenario.specs.Scenario.{Subnetwork};
+ghost use Rattle.scenario_plan.specs.Plan.{Subnetwork};
 
 use crate::code::Code;
-use crate::event::Event;
 use crate::event_line::{router_word, subnet_word, system_word};
-use crate::plan::Subnet;
 use crate::standing::Standing;
 use crate::word::{
     address_word, five_words, four_words, is_digits, mtu_word, number_word, prefix_word, snpa_word,
@@ -16,6 +14,7 @@ use crate::word::{
 use clnp_plan::SystemConfig;
 use clnp_plan::base::same;
 use clnp_plan::routing::Route;
+use scenario_plan::{Event, Subnet};
 
 /// What is settled before the first event: the version of the text, the subnetworks and the systems.
 #[derive(Clone, Copy)]

@@ -1,16 +1,16 @@
 //! How many events came, and what they do together.
 ghost use Rattle.std.specs.Prelude.{◌≡◌, true};
 ghost use Rattle.scenario.specs.Events.{counted, are_few, nothing_counted};
-ghost use Rattle.scenario.specs.Scenario.{passed_by, ticks_of};
+ghost use Rattle.scenario_plan.specs.Plan.{passed_by, ticks_of};
 
-use crate::event::Event;
+use scenario_plan::Event;
 
 /// The events so far, the copies that they settle and lose, and the ticks that they let pass.
 #[derive(Clone, Copy)]
-pub(crate) struct Counts {
-    pub(crate) events: u64,
-    pub(crate) passed: u64,
-    pub(crate) ticks: u64,
+pub struct Counts {
+    pub events: u64,
+    pub passed: u64,
+    pub ticks: u64,
 }
 
 impl Counts {

@@ -1,41 +1,43 @@
-//! Scenario texts: what they declare and what happens.
+//! Scenario texts, and what is read of them.
 #![tactic(auto)]
 
 mod change_line;
 mod code;
 mod counts;
 mod declarations;
-mod event;
 mod event_line;
 mod fault;
-mod kept_ask;
 pub mod laws;
-mod migration;
-mod plan;
 mod reader;
-mod seed;
 mod setting;
 mod standing;
 mod system;
 mod wish;
 pub mod word;
-mod writer;
 
 pub use code::Code;
-pub use event::{Body, Event, Move};
 pub use fault::{LineFault, ScenarioRefusal};
-pub use kept_ask::KeptAsk;
-pub use migration::migrate;
-pub use plan::{Scenario, Subnet};
 pub use reader::{read, read_for_run, read_version_1};
-pub use seed::from_seed;
-pub use writer::write;
+pub use scenario_plan::{Body, Event, KeptAsk, Move, Scenario, Subnet};
+
+/// What words say of a system and of a unit, and what events do together.
+pub mod kinds {
+    pub use crate::counts::Counts;
+    pub use crate::setting::Setting;
+    pub use crate::wish::Wish;
+}
+
+/// What a scenario says.
+pub mod plans {
+    pub use scenario_plan::laws;
+}
 
 /// What a scenario says of a system, and the words and lines of which texts are made.
 pub mod system_plan {
     pub use clnp_plan::{
-        Limits, Note, PortConfig, Role, Settings, SystemConfig, Why, Word, journal_text, kind_word,
-        late_text, octets_word, push_end, push_line, transmission_text, void_text,
+        Ask, Limits, Note, PortConfig, Role, Settings, SystemConfig, Why, Word, journal_text,
+        kind_word, late_text, octets_word, on_or_off, push_end, push_line, push_words, target_text,
+        transmission_text, void_text,
     };
 }
 
@@ -46,7 +48,7 @@ pub mod clnp {
 
 /// NSAP addresses, their prefixes, SNPAs, and targets.
 pub mod nsaps {
-    pub use clnp_plan::nsaps::{Address, Prefix, Snpa, Target};
+    pub use clnp_plan::nsaps::{Address, Prefix, Snpa, Target, laws};
 }
 
 /// The options part of a header.
@@ -73,6 +75,6 @@ pub mod routing {
 pub mod base {
     pub use clnp_plan::base::{
         DigitValues, InlineOctets, NoMemory, decimal, is_skipped, lines, next_line, next_word,
-        same, words,
+        push, same, words,
     };
 }

@@ -9,22 +9,21 @@ ghost use Rattle.scenario.specs.Grammar.{at_line, version_of, header_from, decla
 ghost use Rattle.scenario.specs.Codes.{number_of};
 ghost use Rattle.scenario.specs.declared.fault.ScenarioRefusal.TheVariants.{BadLine};
 ghost use Rattle.scenario.specs.Refusal.{Refuses};
-ghost use Rattle.scenario.specs.Scenario.{IsForBoard};
+ghost use Rattle.scenario_plan.specs.Plan.{IsForBoard};
 
 use crate::change_line::Settled;
 use crate::code::Code;
 use crate::counts::Counts;
 use crate::declarations::Declared;
-use crate::event::Event;
 use crate::event_line::{event_line, is_live_line};
 use crate::fault::{LineFault, ScenarioRefusal};
 use crate::laws;
-use crate::plan::{Scenario, Subnet};
 use crate::standing::Standing;
 use crate::system::System;
 use crate::word::is_line_of;
 use clnp_plan::SystemConfig;
 use clnp_plan::base::{is_skipped, next_line, same};
+use scenario_plan::{Event, Scenario, Subnet};
 use std::alloc::{AllocError, Global};
 
 /// A line that breaks the grammar, by its number and the code's.
@@ -394,11 +393,5 @@ fn read_as(
         number,
         text,
     )?;
-    Ok(Scenario {
-        version,
-        limits,
-        subnets,
-        systems,
-        events,
-    })
+    Ok(Scenario::new(version, limits, subnets, systems, events))
 }

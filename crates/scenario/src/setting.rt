@@ -16,7 +16,7 @@ use std::alloc::Global;
 
 /// A setting of a system.
 #[derive(Clone, Copy)]
-pub(crate) enum Setting {
+pub enum Setting {
     /// How often it says hello, in seconds; 0 is never.
     Hello(u16),
     /// How often a router asks end systems to say hello, in seconds; 0 is no wish.

@@ -2,62 +2,15 @@
 //! how far clocks went on.
 ghost use Rattle.std.specs.Prelude.{◌≡◌, ◌≤◌, ◌<◌, ◌+◌, ◌^◌, ◌++◌, ◌&&◌, ◌||◌, nat_lt, map, length, slice_get, IfOk, OnOk};
 ghost use Rattle.std.specs.List.{AllByRecursion, list_any};
-ghost use Rattle.scenario.specs.Scenario.{ticks_of};
-ghost use Rattle.scenario.specs.Standing.{changed_at, first_clocks, is_ahead, is_among, is_port, is_rival, is_second, moved, prefixes_of, runs_ahead, spots_from, spots_of, standing_after, standing_of, takes_prefix, with_prefix, without_prefix};
+ghost use Rattle.scenario_plan.specs.Plan.{ticks_of};
+ghost use Rattle.scenario_plan.specs.Standing.{changed_at, first_clocks, is_ahead, is_among, is_port, is_rival, is_second, moved, prefixes_of, runs_ahead, spots_from, spots_of, standing_after, standing_of, takes_prefix, with_prefix, without_prefix};
 
-use crate::event::Event;
 use clnp_plan::nsaps::{Prefix, Snpa};
 use clnp_plan::routing::Route;
 use clnp_plan::{PortConfig, SystemConfig};
+use scenario_plan::{Event, Spot};
 use std::alloc::{AllocError, Global};
 use std::marker::Model;
-
-/// Where the port of a system is that has this number: on a subnetwork, at an address there.
-#[derive(Clone, Copy)]
-struct Spot {
-    system: u8,
-    number: u8,
-    subnet: u8,
-    snpa: Snpa,
-}
-
-impl Spot {
-    /// Whether it is the port of this number.
-    fn is_port(&self, system: u8, number: u8) -> bool
-        ensures { result ≡ is_port system number self.now }
-    {
-        self.system == system && self.number == number
-    }
-
-    /// Whether it is another port of the system, on this subnetwork.
-    fn is_second(&self, system: u8, number: u8, subnet: u8) -> bool
-        ensures { result ≡ is_second system number subnet self.now }
-    {
-        self.system == system && self.number != number && self.subnet == subnet
-    }
-
-    /// Whether it is another port, of any system, with this address on this subnetwork.
-    fn is_rival(&self, system: u8, number: u8, subnet: u8, snpa: &Snpa) -> bool
-        ensures { result ≡ is_rival system number subnet snpa.now self.now }
-    {
-        !self.is_port(system, number) && self.subnet == subnet && self.snpa == *snpa
-    }
-
-    /// The port, at its new place where it is the one of this number.
-    fn moved(self, system: u8, number: u8, subnet: u8, snpa: Snpa) -> Spot
-        ensures { result ≡ moved system number subnet snpa self }
-    {
-        if self.is_port(system, number) {
-            Spot {
-                subnet,
-                snpa,
-                ..self
-            }
-        } else {
-            self
-        }
-    }
-}
 
 /// Appends the ports of a system.
 fn push_ports(system: u8, ports: &[PortConfig], spots: &mut Vec<Spot>) -> Result<(), AllocError>
@@ -277,7 +230,7 @@ pub(crate) struct Standing {
 }
 
 impl Model for Standing {
-    ghost use Rattle.scenario.specs.Standing.{Standing};
+    ghost use Rattle.scenario_plan.specs.Standing.{Standing};
 
     ghost Value = { Standing };
 

@@ -16,7 +16,7 @@ use std::alloc::Global;
 
 /// A wish for a unit that is sent.
 #[derive(Clone, Copy)]
-pub(crate) enum Wish {
+pub enum Wish {
     /// Its lifetime in ticks of 500 ms.
     Lasting(u8),
     /// No error report where it is discarded.

@@ -8,11 +8,11 @@ ghost use Rattle.scenario.specs.Refusal.{Faults};
 ghost use Rattle.scenario.specs.declared.code.Code.TheVariants as bad;
 
 use crate::code::Code;
-use crate::event::Body;
 use crate::fault::LineFault;
 use clnp_plan::base::{Octets, decimal, next_word, same};
 use clnp_plan::nsaps::{Address, Prefix, Snpa, Target};
 use clnp_plan::options::OptionList;
+use scenario_plan::Body;
 use std::alloc::Global;
 
 /// The word of a line that has one word.

@@ -4,7 +4,7 @@ ghost use Rattle.std.specs.List.{AllByRecursion, range_with_len};
 ghost use Rattle.clnp_machine.specs.System.{IsRestarted, IsCongested};
 ghost use Rattle.clnp_network.specs.LabelledNetwork as network;
 ghost use Rattle.clnp_world.specs.Parts.{Follows, Holds, IsRunning, MayGoOn};
-ghost use Rattle.clnp_network.specs.Scenario.Scenario.{AsksFairly, InjectsInForm, IsSaid};
+ghost use Rattle.clnp_network.specs.ScenarioPlan.Plan.{AsksFairly, InjectsInForm, IsSaid};
 
 use super::Network;
 use super::coming::names_of_inputs;

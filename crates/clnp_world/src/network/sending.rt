@@ -5,7 +5,7 @@ ghost use Rattle.clnp_network.specs.LabelledNetwork as network;
 ghost use Rattle.clnp_machine.specs.ClnpOptions.Grammar.{FitsKind};
 ghost use Rattle.clnp_machine.specs.ClnpOptions.Parameter.{parameters};
 ghost use Rattle.clnp_world.specs.Parts.{Follows, Holds};
-ghost use Rattle.clnp_network.specs.Scenario.Scenario.{octets_of};
+ghost use Rattle.clnp_network.specs.ScenarioPlan.Plan.{octets_of};
 
 use super::Network;
 use super::coming::names_of_inputs;

@@ -1,6 +1,6 @@
 use Rattle.std.proofs.Common.{◌≡◌, ◌<◌, ◌∙◌, sym, arith, append-nil, append_assoc}
 use Rattle.std.proofs.lemmas.Bool.{true≢false}
-use Rattle.clnp_world.specs.Scenario.declared.event.Move.TheVariants.{SettleOne}
+use Rattle.clnp_world.specs.ScenarioPlan.declared.event.Move.TheVariants.{SettleOne}
 use Rattle.std.proofs.lemmas.List.{replicate_more}
 use Rattle.std.proofs.lemmas.Result.{err_from_is_err_and}
 use Rattle.network_commands.proofs.Plays.{rests_as, stands_as, stopped_as}

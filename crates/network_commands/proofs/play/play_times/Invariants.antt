@@ -1,5 +1,5 @@
 use Rattle.std.proofs.Common.{ℕ, ◌≤◌, List, ◌++◌, Option, replicate}
-use Rattle.clnp_world.specs.Scenario.declared.event.Move.{Move}
+use Rattle.clnp_world.specs.ScenarioPlan.declared.event.Move.{Move}
 use Rattle.clnp_world.specs.ClnpNetwork.LabelledNetwork as network
 use Rattle.clnp_world.specs.ClnpNetwork.Run.{world_after}
 use Rattle.clnp_world.specs.Stands.{Stands}

@@ -1,5 +1,5 @@
 use Rattle.std.proofs.Common.{subst}
-use Rattle.clnp_world.specs.Scenario.Scenario.{Plan}
+use Rattle.clnp_world.specs.ScenarioPlan.Plan.{Plan}
 use Rattle.network_commands.specs.Counting.{SumOf}
 use Rattle.network_commands.proofs.storm.run_seed.Goals as goal
 

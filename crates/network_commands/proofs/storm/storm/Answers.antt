@@ -1,5 +1,5 @@
 use Rattle.std.proofs.Common.{◌∙◌, List, ℕ, Option, Err, ap, arith, refl, subst, sym}
-use Rattle.clnp_world.specs.Scenario.Seeds as seeds
+use Rattle.scenario_writing.specs.Seeds as seeds
 use Rattle.command_base.specs.ByLine.{EndOf}
 use Rattle.command_base.specs.ComesAs.{ComesAs}
 use Rattle.network_commands.specs.Play.{status_of}

@@ -3,7 +3,7 @@ use Rattle.std.proofs.Common.{◌≡◌, Option, None, Some, arith, refl, subst,
 use Rattle.std.specs.Prelude.{slice_get}
 use Rattle.std.proofs.lemmas.Option.{slice_get_past, slice_get_read}
 use Rattle.std.proofs.lemmas.Result.{on_ok_weaker}
-use Rattle.clnp_network.specs.Scenario.declared.event.Event.{Event}
+use Rattle.clnp_network.specs.ScenarioPlan.declared.event.Event.{Event}
 use Rattle.clnp_network.specs.LabelledNetwork as network
 use Rattle.clnp_world.specs.Parts.{Follows}
 use Rattle.clnp_world.proofs.GiveSteps.{follows_nothing}

@@ -1,8 +1,8 @@
 -- The system at the event's place sends.
 use Rattle.std.proofs.Common.{ℕ, Some, sym, subst}
 use Rattle.std.proofs.lemmas.Result.{on_ok_weaker}
-use Rattle.clnp_network.specs.Scenario.Scenario.{octets_of}
-use Rattle.clnp_network.specs.Scenario.declared.event.Event.{Event}
+use Rattle.clnp_network.specs.ScenarioPlan.Plan.{octets_of}
+use Rattle.clnp_network.specs.ScenarioPlan.declared.event.Event.{Event}
 use Rattle.clnp_machine.specs.ClnpPlan.declared.ask.Ask.{Ask}
 use Rattle.clnp_machine.specs.System.{AsksToSend}
 use Rattle.clnp_network.specs.LabelledNetwork as network

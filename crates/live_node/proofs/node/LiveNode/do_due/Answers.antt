@@ -3,8 +3,8 @@ use Rattle.std.proofs.Common.{◌≡◌, ◌≤◌, ◌<◌, ◌+◌, ◌∙◌,
 use Rattle.clnp_machine.specs.ClnpPlan.Configuration.{SystemConfiguration}
 use Rattle.clnp_machine.specs.System.{Input}
 use Rattle.clnp_systems.specs.Stands as clnp_systems
-use Rattle.scenario.specs.Scenario.{ticks_of}
-use Rattle.scenario.specs.declared.event.Event.{Event}
+use Rattle.scenario_plan.specs.Plan.{ticks_of}
+use Rattle.scenario_plan.specs.declared.event.Event.{Event}
 use Rattle.live_model.specs.Node.{Node, Outcome, and_then, come_all}
 use Rattle.live_model.specs.Turn.{Due, asked_by}
 use Rattle.live_node.specs.Agenda.{asks_by, dues_of}

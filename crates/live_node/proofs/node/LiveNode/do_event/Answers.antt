@@ -1,7 +1,7 @@
 -- What an event asks.
 use Rattle.std.proofs.Common.{◌≡◌, List, [], ap, refl, rules, sym}
 use Rattle.clnp_systems.specs.Stands as clnp_systems
-use Rattle.scenario.specs.declared.event.Event.{Event}
+use Rattle.scenario_plan.specs.declared.event.Event.{Event}
 use Rattle.live_model.specs.Node.{Goes, come_all}
 use Rattle.live_model.specs.Turn.{asked_by}
 use Rattle.live_node.proofs.Playing.{plays_as, plays_nothing}

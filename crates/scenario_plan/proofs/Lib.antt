@@ -1,0 +1,3 @@
+mod Patterns
+pub mod Migrated
+pub mod WorkedPlans

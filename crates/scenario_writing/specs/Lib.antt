@@ -1,0 +1,4 @@
+pub use Rattle.scenario.specs as Scenario
+pub mod Canonical
+pub mod Seeds
+pub mod Migration
