@@ -1,12 +1,12 @@
 -- What stands in the slots of a list, where one comes, goes or is filled anew.
-use Rattle.std.proofs.Common.{◌≡◌, ◌≢◌, ◌∙◌, sym, ap, refl, subst, ℕ, zero, suc, ◌<◌, ◌≤◌, true, List, [], ◌∷◌, ◌++◌, length, length-append, map, Option, Some, None, is_some, arith}
+use Rattle.std.proofs.Common.{◌≡◌, ◌≢◌, ◌∙◌, sym, ap, refl, subst, ℕ, zero, suc, ◌<◌, ◌≤◌, true, List, [], ◌∷◌, ◌++◌, length, length-append, Option, Some, None, is_some, arith}
 use Rattle.std.specs.Prelude.{slice_get, slice_index_or, slice_set}
 use Rattle.std.specs.List.{AllByRecursion, cons_option, filter_map, insert, remove}
 use Rattle.std.specs.Option.{option_map}
 use Rattle.std.proofs.lemmas.Bool.{false≢true}
-use Rattle.std.proofs.lemmas.List.{append_assoc, length-map, length-set}
+use Rattle.std.proofs.lemmas.List.{append_assoc, length-set}
 use Rattle.std.proofs.lemmas.List.Edits.{insert-append_left, length-insert, length-remove, remove-append_left}
-use Rattle.std.proofs.lemmas.Option.{none-some, same_Some, slice_get-map, slice_get_read, slice_get_within}
+use Rattle.std.proofs.lemmas.Option.{none-some, same_Some, slice_get_read, slice_get_within}
 use Rattle.esis_tables.specs.declared.table.Entry.{Entry}
 use Rattle.esis_tables.specs.Slots.{AreApart, AreTaken, entries_in}
 use Rattle.esis_tables.specs.State.{TableState, key_in}
@@ -218,16 +218,9 @@ module _ {entries : List Entry} {taken free : List ℕ} (are : AreTaken entries 
         → slice_get (entries_in entries taken) place ≡ Some entry
     entry_read entry read = entry_at ∙ slice_get_read entries (length entries) slot entry refl within_at read
 
-    module _ {keys : List (List ℕ)} (beside : keys ≡ map key_in entries) where
-      pub key_within : slot < length keys
-      key_within = omega (arith, within_at, ap (λ (l : List (List ℕ)). length l) beside, length-map entries key_in)
-
-      pub key_read : (key : List ℕ) → key ≡ slice_index_or keys slot key
-          → option_map key_in (slice_get (entries_in entries taken) place) ≡ Some key
-      key_read key read =
-          ap (option_map key_in) entry_at ∙ sym (slice_get-map key_in entries slot)
-          ∙ ap (λ (l : List (List ℕ)). slice_get l slot) (sym beside)
-          ∙ slice_get_read keys (length keys) slot key refl key_within read
+    pub key_read : (entry : Entry) → entry ≡ slice_index_or entries slot entry
+        → option_map key_in (slice_get (entries_in entries taken) place) ≡ Some entry.key
+    key_read entry read = ap (option_map key_in) (entry_read entry read)
 
     -- its entry is another one
     pub set_entries : (entry : Entry)

@@ -1,5 +1,5 @@
 //! Entries that stay where they are.
-ghost use Rattle.std.specs.Prelude.{◌≡◌, ◌≢◌, ◌<◌, ◌≤◌, ◌+◌, ◌-◌, ◌^◌, ℕ, List, [], ◌∷◌, nat_le, insert, length, map, remove, IfOk, IfSome, Some, slice_get, slice_set, vec_capacity};
+ghost use Rattle.std.specs.Prelude.{◌≡◌, ◌≢◌, ◌<◌, ◌≤◌, ◌+◌, ◌-◌, ◌^◌, ℕ, List, [], ◌∷◌, nat_le, insert, length, remove, IfOk, IfSome, Some, slice_get, slice_set, vec_capacity};
 ghost use Rattle.std.specs.List.{AllByRecursion};
 ghost use Rattle.std.specs.Option.{option_map};
 ghost use Rattle.esis_tables.specs.Slots.{AreTaken};
@@ -21,9 +21,6 @@ pub(super) struct Slots {
     limit: u16,
     /// By slot. Where a slot is free, that which was taken out last stands there still.
     entries: Vec<Entry>,
-    /// The keys of the entries once more, by slot: a search reads them alone, and an entry that is
-    /// written over isn't read.
-    keys: Vec<Address>,
     /// The slots that are taken, in the order of their entries.
     order: Vec<u16>,
     /// The slots that are free.
@@ -31,9 +28,9 @@ pub(super) struct Slots {
 }
 
 impl Model for Slots {
-    ghost use Rattle.std.specs.Prelude.{◌≡◌, ◌<◌, ◌≤◌, ◌^◌, length, map, vec_capacity};
+    ghost use Rattle.std.specs.Prelude.{◌<◌, ◌≤◌, ◌^◌, length, vec_capacity};
     ghost use Rattle.esis_tables.specs.Slots.{AreTaken, entries_in};
-    ghost use Rattle.esis_tables.specs.State.{TableState, key_in};
+    ghost use Rattle.esis_tables.specs.State.{TableState};
 
     ghost Value = { TableState };
 
@@ -41,9 +38,8 @@ impl Model for Slots {
 
     // Room for all that the limit allows was reserved when the slots were made.
     ghost invariant = { λ s. AreTaken s.entries.items s.order.items s.free.items
-        × (s.keys.items ≡ map key_in s.entries.items)
         × (length s.entries.items ≤ s.limit) × (s.limit < 2 ^ 16)
-        × (s.limit ≤ vec_capacity s.entries) × (s.limit ≤ vec_capacity s.keys)
+        × (s.limit ≤ vec_capacity s.entries)
         × (s.limit ≤ vec_capacity s.order) × (s.limit ≤ vec_capacity s.free) };
 }
 
@@ -60,7 +56,6 @@ impl Slots {
         Ok(Slots {
             limit,
             entries: with_room(alloc, limit)?,
-            keys: with_room(alloc, limit)?,
             order: with_room(alloc, limit)?,
             free: with_room(alloc, limit)?,
         })
@@ -96,10 +91,10 @@ impl Slots {
         ensures { option_map key_in (slice_get self.now.entries place) ≡ Some result.now }
     {
         let slot = usize::from(self.order[place]);
-        &self.keys[slot]
+        &self.entries[slot].key
     }
 
-    /// The key of the entry at a place, if it stands in this slot: neither is read behind the other.
+    /// The key of the entry at a place, if it stands in this slot.
     pub(super) fn key_in_slot(&self, place: usize, slot: u16) -> Option<&Address>
         ensures { IfSome result (λ key. (place < length self.now.entries)
             × (option_map key_in (slice_get self.now.entries place) ≡ Some key.now)) }
@@ -111,7 +106,7 @@ impl Slots {
         if taken != slot {
             return None;
         }
-        Some(&self.keys[usize::from(slot)])
+        Some(&self.entries[usize::from(slot)].key)
     }
 
     /// Puts an entry in at a place. Tells its slot.
@@ -121,7 +116,7 @@ impl Slots {
         ensures entries { self.new.entries ≡ insert self.old.entries place entry }
         ensures limit { self.new.limit ≡ self.old.limit }
     {
-        let slot = fill(&mut self.entries, &mut self.keys, &mut self.free, entry);
+        let slot = fill(&mut self.entries, &mut self.free, entry);
         let Ok(()) = self.order.insert(place, slot) else {
             unreachable!()
         };
@@ -134,11 +129,9 @@ impl Slots {
         ensures entries { self.new.entries ≡ slice_set self.old.entries place entry }
         ensures limit { self.new.limit ≡ self.old.limit }
     {
-        let key = entry.key;
         let taken = self.order[place];
         let slot = usize::from(taken);
         self.entries[slot] = entry;
-        self.keys[slot] = key;
         taken
     }
 
@@ -162,7 +155,6 @@ impl Slots {
         ensures limit { self.new.limit ≡ self.old.limit }
     {
         self.entries.clear();
-        self.keys.clear();
         self.order.clear();
         self.free.clear();
     }
@@ -176,34 +168,28 @@ fn with_room<T>(alloc: Global, most: u16) -> Result<Vec<T>, NoMemory>
     Ok(Vec::with_capacity(alloc, usize::from(most))?)
 }
 
-/// Puts an entry and its key into a slot that is free, or into a new one behind the others.
-fn fill(entries: &mut Vec<Entry>, keys: &mut Vec<Address>, free: &mut Vec<u16>, entry: Entry) -> u16
+/// Puts an entry into a slot that is free, or into a new one behind the others.
+fn fill(entries: &mut Vec<Entry>, free: &mut Vec<u16>, entry: Entry) -> u16
     requires free { AllByRecursion (λ slot. slot < length entries.old.items) free.old.items }
-    requires keys { keys.old.items ≡ map key_in entries.old.items }
     requires room { free.old.items ≡ [] → (length entries.old.items < 2 ^ 16)
-        × (length entries.old.items < vec_capacity entries.old)
-        × (length entries.old.items < vec_capacity keys.old) }
+        × (length entries.old.items < vec_capacity entries.old) }
     ensures there { slice_get entries.new.items result ≡ Some entry }
     ensures others { (other : ℕ) → other ≢ result
         → slice_get entries.new.items other ≡ slice_get entries.old.items other }
     ensures number { length entries.new.items
         ≡ length entries.old.items + (1 - length free.old.items) }
-    ensures keys { keys.new.items ≡ map key_in entries.new.items }
     ensures taken { (taken : List ℕ) → AreTaken entries.old.items taken free.old.items
         → AreTaken entries.new.items (result ∷ taken) free.new.items }
     ensures room { (vec_capacity entries.old ≤ vec_capacity entries.new)
-        × (vec_capacity keys.old ≤ vec_capacity keys.new)
         × (vec_capacity free.old ≤ vec_capacity free.new) }
 {
-    let key = entry.key;
     if let Some(slot) = free.pop() {
         let at = usize::from(slot);
         entries[at] = entry;
-        keys[at] = key;
         return slot;
     }
     let slot = entries.len() as u16;
-    let (Ok(()), Ok(())) = (entries.push(entry), keys.push(key)) else {
+    let Ok(()) = entries.push(entry) else {
         unreachable!()
     };
     slot

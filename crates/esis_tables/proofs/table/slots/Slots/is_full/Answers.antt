@@ -5,7 +5,7 @@ use Rattle.esis_tables.proofs.table.slots.Slots.is_full.Goals as goal
 pub returns-clause-within : goal.returns-clause-within
 returns-clause-within c =
     let stands = c.self.invariant.0 in
-    omega (arith, as_many stands c.self.view_is, ap (λ v. v.limit) c.self.view_is, stands.number, c.self.invariant.2)
+    omega (arith, as_many stands c.self.view_is, ap (λ v. v.limit) c.self.view_is, stands.number, c.self.invariant.1)
 
 pub returns-clause-full : goal.returns-clause-full
 returns-clause-full c =

@@ -1,9 +1,9 @@
 -- By the slot that stands at the place.
-use Rattle.std.proofs.Common.{◌≡◌, ◌∙◌, ◌<◌, ap, arith, length, sym}
+use Rattle.std.proofs.Common.{◌∙◌, ◌<◌, ap, arith, length, sym}
 use Rattle.std.specs.Option.{option_map}
 use Rattle.std.specs.Prelude.{slice_get}
 use Rattle.esis_tables.specs.State.{key_in}
-use Rattle.esis_tables.proofs.Slots.{as_many, key_read, key_within, slot_read}
+use Rattle.esis_tables.proofs.Slots.{as_many, key_read, slot_read, within_at}
 use Rattle.esis_tables.proofs.table.slots.Slots.key_in_slot.Goals as goal
 
 within : (c : goal.After-from) → c.args.place < length c.args.self.now.entries
@@ -12,7 +12,7 @@ within c = omega (arith, c.if-place-len.false, c.len.ensures, as_many c.self.inv
 pub index-requires : goal.index-requires
 index-requires c =
     let at = slot_read c.self.invariant.0 c.self.view_is (within c) c.index-taken.ensures (c.from.ensures ∙ sym c.if-taken-slot.false) in
-    omega (arith, key_within c.self.invariant.0 c.args.place at c.self.invariant.1)
+    omega (arith, within_at c.self.invariant.0 c.args.place at)
 
 pub returns : goal.returns
 returns c =
@@ -21,5 +21,5 @@ returns c =
     let at = slot_read c.self.invariant.0 c.self.view_is there c.index-taken.ensures (c.from.ensures ∙ sym c.if-taken-slot.false) in (
       there,
       ap (λ v. option_map key_in (slice_get v.entries c.args.place)) (sym c.self.view_is)
-          ∙ key_read c.self.invariant.0 c.args.place at c.self.invariant.1 c.index.result.now c.index.ensures,
+          ∙ key_read c.self.invariant.0 c.args.place at c.index.result.now c.index.ensures,
     )

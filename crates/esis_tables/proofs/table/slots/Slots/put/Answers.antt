@@ -18,7 +18,7 @@ fill-slot-requires-clause-room c none =
       ap (λ (l : List ℕ). length l) none,
       c.self.invariant.0.number,
     ) in
-    (omega (arith, room, c.self.invariant.3), omega (arith, room, c.self.invariant.4), omega (arith, room, c.self.invariant.5))
+    (omega (arith, room, c.self.invariant.2), omega (arith, room, c.self.invariant.3))
 
 pub insert-requires : goal.insert-requires
 insert-requires c = omega (arith, c.requires.place, as_many c.self.invariant.0 c.self.view_is)
@@ -30,7 +30,7 @@ unreachable-requires c =
       c.requires.room,
       as_many c.self.invariant.0 c.self.view_is,
       ap (λ v. v.limit) c.self.view_is,
-      c.self.invariant.6,
+      c.self.invariant.4,
       c.in_default.ensures.full,
     )
 
@@ -41,21 +41,19 @@ invariant_of-self c =
     let many = as_many c.self.invariant.0 c.self.view_is in
     let place : c.args.place ≤ length t.order.items = omega (arith, c.requires.place, many) in (
       rw c.in-Ok.ensures.items (put_taken c.self.invariant.0 (filled.taken t.order.items c.self.invariant.0) place),
-      filled.keys,
       omega (
         arith,
         filled.number,
         c.self.invariant.0.number,
-        c.self.invariant.2,
+        c.self.invariant.1,
         c.requires.room,
         many,
         ap (λ v. v.limit) c.self.view_is,
       ),
-      c.self.invariant.3,
-      omega (arith, filled.room, c.self.invariant.4),
+      c.self.invariant.2,
+      omega (arith, filled.room, c.self.invariant.3),
+      omega (arith, c.in-Ok.ensures.capacity, c.self.invariant.4),
       omega (arith, filled.room, c.self.invariant.5),
-      omega (arith, c.in-Ok.ensures.capacity, c.self.invariant.6),
-      omega (arith, filled.room, c.self.invariant.7),
     )
 
 pub returns-clause-entries : goal.returns-clause-entries

@@ -1,9 +1,8 @@
 -- The slot stays taken.
-use Rattle.std.proofs.Common.{◌∙◌, List, ap, arith, sym, ℕ}
+use Rattle.std.proofs.Common.{◌∙◌, ap, arith}
 use Rattle.std.specs.Prelude.{slice_set}
-use Rattle.std.proofs.lemmas.List.{length-set, map-set}
-use Rattle.esis_tables.specs.State.{key_in}
-use Rattle.esis_tables.proofs.Slots.{as_many, key_within, set_entries, set_taken, slot_read, within_at}
+use Rattle.std.proofs.lemmas.List.{length-set}
+use Rattle.esis_tables.proofs.Slots.{as_many, set_entries, set_taken, slot_read, within_at}
 use Rattle.esis_tables.proofs.table.slots.Slots.set.Goals as goal
 
 pub index-taken-requires : goal.index-taken-requires
@@ -14,24 +13,16 @@ index_mut-requires c =
     let at = slot_read c.self.invariant.0 c.self.view_is c.requires c.index-taken.ensures c.from-slot.ensures in
     omega (arith, within_at c.self.invariant.0 c.args.place at)
 
-pub index_mut-requires-2 : goal.index_mut-requires-2
-index_mut-requires-2 c =
-    let at = slot_read c.self.invariant.0 c.self.view_is c.requires c.index-taken.ensures c.from-slot.ensures in
-    omega (arith, key_within c.self.invariant.0 c.args.place at c.self.invariant.1)
-
 pub invariant_of-self : goal.invariant_of-self
 invariant_of-self c =
     let entries = c.self.inside.entries.items in
     let slot = c.from-slot.result in (
       set_taken c.self.invariant.0 slot c.args.entry,
-      ap (λ (l : List (List ℕ)). slice_set l slot c.args.entry.key) c.self.invariant.1
-          ∙ sym (map-set key_in entries slot c.args.entry),
-      omega (arith, length-set entries slot c.args.entry, c.self.invariant.2),
+      omega (arith, length-set entries slot c.args.entry, c.self.invariant.1),
+      c.self.invariant.2,
       c.self.invariant.3,
       c.self.invariant.4,
       c.self.invariant.5,
-      c.self.invariant.6,
-      c.self.invariant.7,
     )
 
 pub returns-clause-entries : goal.returns-clause-entries

@@ -20,10 +20,8 @@ invariant_of-self c =
       c.self.invariant.1,
       c.self.invariant.2,
       c.self.invariant.3,
-      c.self.invariant.4,
-      c.self.invariant.5,
-      omega (arith, c.remove-slot.ensures.capacity, c.self.invariant.6),
-      omega (arith, c.in-Ok.ensures.capacity, c.self.invariant.7),
+      omega (arith, c.remove-slot.ensures.capacity, c.self.invariant.4),
+      omega (arith, c.in-Ok.ensures.capacity, c.self.invariant.5),
     )
 
 pub returns-clause-entry : goal.returns-clause-entry
