@@ -3,3 +3,4 @@ pub mod Totals
 pub mod Vectors
 pub mod Packs
 pub mod RoundTrip
+pub mod Skipping

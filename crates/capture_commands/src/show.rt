@@ -82,6 +82,9 @@ fn push_line(
     ensures { (number : ℕ) → PushOf showing number
         (λ done. number + 1) number line.now block.old.items block.new.items result }
 {
+    if line.is_empty() {
+        return Ok(());
+    }
     frame.clear();
     match read_capture(values, line, frame) {
         Ok(true) => push_shown(frame.as_slice(), block),
