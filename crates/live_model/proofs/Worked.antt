@@ -1,8 +1,8 @@
 -- Worked examples of live nodes, computed with the definitions: the quiet time at the start, links that fail in a look and as a
 -- frame is sent, a node whose links are all gone, and transcripts that are none of a node.
-use Rattle.std.proofs.Common.{◌≡◌, ℕ, Bool, true, false, List, [], ◌∷◌, refl, Some, None, Ok, codes}
+use Rattle.std.proofs.Common.{◌≡◌, ℕ, Bool, true, false, List, [], ◌∷◌, refl, Some, None, codes}
 use Rattle.std.specs.Fmt.{digits}
-use Rattle.hex.specs.Hex.{encode_with, decode_pairs}
+use Rattle.hex.specs.Hex.{encode_with}
 use Rattle.clnp_machine.specs.Fletcher.Checksum.{sealed, checksum_x, checksum_y}
 use Rattle.clnp_machine.specs.ClnpOptions.Parameter.{spelled, parameters_after}
 use Rattle.clnp_machine.specs.ClnpOptions.Edits.{edited, target_of, value_of}

@@ -20,7 +20,7 @@ use Rattle.scenario.specs.ClnpPlan.declared.config.Role.TheVariants.{Host, Route
 use Rattle.scenario_writing.specs.Canonical.{keyed, spelled_behind, body_text, subnet_name, system_name, word_if, options_words, ask_words, event_text}
 use Rattle.scenario.specs.ScenarioPlan.Plan.{Subnetwork, AsksInForm, ChangesInForm, HasNumber, InjectsInForm, IsOfVersion1, IsPlaced, IsFromHost, IsOfRouter, IsSaid, IsSaidBody, IsSaidAsk, AreSaidOptions}
 use Rattle.scenario.specs.ScenarioPlan.Standing.{MayCome, Standing, is_rival, is_second, runs_ahead, takes_prefix}
-use Rattle.scenario.specs.Words.{◌>>=◌, wanted, found, is_name, declared_word, number_within, number_word, is_digits, address_word, prefix_word, after_prefix, is_colon, fields_at, two_fields, pattern_word, data_word, life_word, options_read, options_word, octets_behind, each_once, frame_word, target_word}
+use Rattle.scenario.specs.Words.{wanted, found, is_name, declared_word, number_within, number_word, is_digits, address_word, prefix_word, after_prefix, is_colon, fields_at, two_fields, pattern_word, data_word, life_word, options_read, options_word, octets_behind, each_once, frame_word, target_word}
 use Rattle.scenario.specs.Events.{wish_word, wish_words, wish_key, own_life, ask_of, is_host_at, host_word, is_router_at, router_word, on_word, send_line, deliver_line, tick_line, restart_line, echo_line, congest_line, inject_line, count_line, has_number, port_word, mtu_line, route_line, unroute_line, port_line, change_line, tick_system_line, ticks_line, Scene, scene_of, event_line}
 use Rattle.scenario.specs.declared.code.Code.{Code}
 use Rattle.scenario.specs.declared.code.Code.TheVariants as bad
