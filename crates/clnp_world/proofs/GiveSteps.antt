@@ -1,9 +1,9 @@
 -- What a network of the code stands for where a copy is given.
-use Rattle.std.proofs.Common.{◌≡◌, ℕ, ◌+◌, ◌-◌, ◌<◌, ◌≤◌, List, [], ◌∷◌, ◌++◌, length, take, get_or, map, cond, Bool, true, false, Option, Some, None, refl, sym, ap, ◌∙◌, subst, append-nil, arith}
+use Rattle.std.proofs.Common.{◌≡◌, ℕ, ◌+◌, ◌-◌, ◌<◌, ◌≤◌, List, [], ◌∷◌, ◌++◌, length, take, drop, get_or, map, cond, Bool, true, false, Option, Some, None, refl, sym, ap, ◌∙◌, subst, arith}
 use Rattle.std.specs.Prelude.{slice_get}
 use Rattle.std.specs.List.{AllByRecursion}
 use Rattle.std.proofs.lemmas.Bool.{true≢false}
-use Rattle.std.proofs.lemmas.List.{take_all}
+use Rattle.std.proofs.lemmas.List.{drop_all}
 use Rattle.std.proofs.lemmas.Option.{slice_get_past, slice_get_read}
 use Rattle.clnp_machine.specs.ClnpPlan.Journal.{Void, Late, Received, Lost, ForNobody}
 use Rattle.clnp_machine.specs.ClnpPlan.declared.config.Limits.{Limits}
@@ -12,16 +12,18 @@ use Rattle.clnp_machine.specs.System.{FrameComes, SystemState}
 use Rattle.clnp_machine.specs.Step.{step}
 use Rattle.clnp_network.specs.LabelledNetwork as network
 use Rattle.clnp_world.specs.Lines.{Gains, Taken}
-use Rattle.clnp_world.specs.Seen.{IsPortFor, frame_copy, origin_of}
+use Rattle.clnp_world.specs.Seen.{IsNextAddressee, IsPortFor, frame_copy, origin_of}
 use Rattle.clnp_world.specs.Parts.{Shows, Holds, IsRunning, Follows}
 use Rattle.clnp_world.specs.Stands.{IsMadeWithUnit}
 use Rattle.clnp_world.specs.declared.network.Network.{Network}
+use Rattle.clnp_world.specs.declared.network.giving.Addressee.{Addressee}
 use Rattle.clnp_world.specs.declared.copy.FrameCopy.{FrameCopy}
 use Rattle.clnp_machine.proofs.ClnpBase.Lists.{AllByRecursion-slice_get, slice_get_some}
 use Rattle.clnp_machine.proofs.ClnpBase.ListSteps.{slice_get_map}
 use Rattle.clnp_world.proofs.EachSteps.{each_length}
-use Rattle.clnp_world.proofs.ModelSteps.{seats-give_each, same_seat, same_addressee, copy-give_each, give_each-push, addressees_from-take}
+use Rattle.clnp_world.proofs.ModelSteps.{seats-give_each, copy-give_each, give_each-push}
 use Rattle.clnp_world.proofs.LineSteps.{gains_more}
+use Rattle.clnp_world.proofs.NextSteps.{addressees_from-drop, places_all, places_more, same_from}
 use Rattle.clnp_world.proofs.PutSteps.{Born, puts_nothing, puts_line, puts_then, counted}
 
 -- a copy of the model, at its place
@@ -126,30 +128,6 @@ TellsPort code at place found =
     (model : network.LabelledNetwork) (copy : network.Copy) (system : SystemState) → Shows code model → slice_get model.copies at ≡ Some copy
     → slice_get model.systems place ≡ Some system → IsPortFor copy system found
 
--- what was done to give the copy by a port
-abbrev pub GivesBy : Network → Network → Taken → Taken → Limits → (number at place port : ℕ) → Type 0
-GivesBy old code before after limits number at place port =
-    (model : network.LabelledNetwork) (copy : network.Copy) (system : SystemState) → Holds old model → slice_get model.copies at ≡ Some copy
-    → slice_get model.systems place ≡ Some system
-    → port ≡ network.first_port copy system.configuration.role system.attached.ports
-    → Follows code before after (network.give limits (numbered number copy) model place)
-
-pub gives_by : (old code : Network) (before after : Taken) (limits : Limits) (number at place port : ℕ) → place < length old.systems.items
-    → TellsPort old at place (Some port) → GivesBy old code before after limits number at place port
-    → (model : network.LabelledNetwork) (copy : network.Copy) → Holds old model → slice_get model.copies at ≡ Some copy
-    → Follows code before after (network.give limits (numbered number copy) model place)
-gives_by old code before after limits number at place port within tells gives model copy h there =
-    let system = system_there old model place h.shows within in
-    gives model copy system.0 h there system.1 (tells model copy system.0 h.shows there system.1).1
-
--- One copy for each of its addressees.
-
--- what the code has given of a copy, to the systems below a place, is what the model has
-abbrev pub Gives : Network → Network → Taken → Taken → Limits → ℕ → ℕ → Type 0
-Gives start code before after limits at place =
-    (model : network.LabelledNetwork) (copy : network.Copy) → Holds start model → slice_get model.copies at ≡ Some copy
-    → Follows code before after (network.give_each limits (numbered (at + 1) copy) model (network.addressees_from 0 copy (take place model.systems)))
-
 -- whether the copy is for the system at the place
 abbrev pub TellsAddressee : Network → ℕ → ℕ → Bool → Type 0
 TellsAddressee code at place answer =
@@ -161,6 +139,91 @@ tells_some code at place port tells model copy system h there here = (tells mode
 
 pub tells_none : (code : Network) (at place : ℕ) → TellsPort code at place None → TellsAddressee code at place false
 tells_none code at place tells model copy system h there here = tells model copy system h there here
+
+-- what was done to give the copy by a port
+abbrev pub GivesBy : Network → Network → Taken → Taken → Limits → (number at place port : ℕ) → Type 0
+GivesBy old code before after limits number at place port =
+    (model : network.LabelledNetwork) (copy : network.Copy) (system : SystemState) → Holds old model → slice_get model.copies at ≡ Some copy
+    → slice_get model.systems place ≡ Some system
+    → port ≡ network.first_port copy system.configuration.role system.attached.ports
+    → Follows code before after (network.give limits (numbered number copy) model place)
+
+-- it is the least port by which the copy comes in to the system at the place
+abbrev pub IsPortAt : Network → (at place port : ℕ) → Type 0
+IsPortAt code at place port =
+    (model : network.LabelledNetwork) (copy : network.Copy) (system : SystemState) → Shows code model → slice_get model.copies at ≡ Some copy
+    → slice_get model.systems place ≡ Some system → port ≡ network.first_port copy system.configuration.role system.attached.ports
+
+pub port_told : (code : Network) (at place port : ℕ) → TellsPort code at place (Some port) → IsPortAt code at place port
+port_told code at place port tells model copy system h there here = (tells model copy system h there here).1
+
+pub gives_by : (old code : Network) (before after : Taken) (limits : Limits) (number at place port : ℕ) → place < length old.systems.items
+    → IsPortAt old at place port → GivesBy old code before after limits number at place port
+    → (model : network.LabelledNetwork) (copy : network.Copy) → Holds old model → slice_get model.copies at ≡ Some copy
+    → Follows code before after (network.give limits (numbered number copy) model place)
+gives_by old code before after limits number at place port within is gives model copy h there =
+    let system = system_there old model place h.shows within in
+    gives model copy system.0 h there system.1 (is model copy system.0 h.shows there system.1)
+
+-- The next addressee of a copy.
+
+-- none of the systems from a place to another is one that the copy is for
+abbrev pub Skips : Network → (at from place : ℕ) → Type 0
+Skips code at from place =
+    (model : network.LabelledNetwork) (copy : network.Copy) → Shows code model → slice_get model.copies at ≡ Some copy
+    → network.addressees_from from copy (drop from model.systems) ≡ network.addressees_from place copy (drop place model.systems)
+
+-- what is told of the next one
+abbrev pub TellsNext : Network → (at from : ℕ) → Option Addressee → Type 0
+TellsNext code at from found =
+    (model : network.LabelledNetwork) (copy : network.Copy) → Shows code model → slice_get model.copies at ≡ Some copy
+    → IsNextAddressee copy model.systems from found
+
+pub next_port : (code : Network) (at from : ℕ) (next : Addressee) → TellsNext code at from (Some next) → IsPortAt code at next.place next.port
+next_port code at from next tells model copy system h there here = (tells model copy h there).1 system here
+
+pub skips_nothing : (code : Network) (at from : ℕ) → Skips code at from from
+skips_nothing code at from model copy h there = refl
+
+-- one more system is looked at
+skips_then : (code : Network) (at from place : ℕ) (answer : Bool) → Skips code at from place → place < length code.systems.items
+    → TellsAddressee code at place answer
+    → (model : network.LabelledNetwork) (copy : network.Copy) → Shows code model → slice_get model.copies at ≡ Some copy
+    → network.addressees_from from copy (drop from model.systems)
+    ≡ cond answer (place ∷ network.addressees_from (place + 1) copy (drop (place + 1) model.systems))
+    (network.addressees_from (place + 1) copy (drop (place + 1) model.systems))
+skips_then code at from place answer so_far within tells model copy h there =
+    let system = system_there code model place h within in
+    let others = network.addressees_from (place + 1) copy (drop (place + 1) model.systems) in
+    so_far model copy h there ∙ addressees_from-drop copy model.systems place system.0 system.1
+    ∙ ap (λ (b : Bool). cond b (place ∷ others) others) (sym (tells model copy system.0 h there system.1))
+
+pub skips_more : (code : Network) (at from place : ℕ) → Skips code at from place → place < length code.systems.items
+    → TellsPort code at place None → Skips code at from (place + 1)
+skips_more code at from place so_far within tells =
+    skips_then code at from place false so_far within (tells_none code at place tells)
+
+pub finds_next : (code : Network) (at from place port : ℕ) → Skips code at from place → place < length code.systems.items
+    → TellsPort code at place (Some port) → TellsNext code at from (Some (record { place = place; port = port }))
+finds_next code at from place port so_far within tells model copy h there = (
+  skips_then code at from place true so_far within (tells_some code at place port tells) model copy h there,
+  λ system here. (tells model copy system h there here).1,
+)
+
+pub finds_none : (code : Network) (at from place : ℕ) → Skips code at from place → length code.systems.items ≤ place
+    → TellsNext code at from None
+finds_none code at from place so_far past model copy h there =
+    let same = each_length code.systems.items model.systems h.systems in
+    so_far model copy h there
+    ∙ ap (λ (ss : List SystemState). network.addressees_from place copy ss) (drop_all place model.systems (omega arith))
+
+-- One copy for each of its addressees.
+
+-- what the code has given of a copy, to the systems below a place, is what the model has
+abbrev pub Gives : Network → Network → Taken → Taken → Limits → ℕ → ℕ → Type 0
+Gives start code before after limits at place =
+    (model : network.LabelledNetwork) (copy : network.Copy) → Holds start model → slice_get model.copies at ≡ Some copy
+    → Follows code before after (network.give_each limits (numbered (at + 1) copy) model (network.addressees_from 0 copy (take place model.systems)))
 
 pub gives_none : (code : Network) (lines : Taken) (limits : Limits) (at : ℕ) → Gives code code lines lines limits at 0
 gives_none code lines limits at model copy h there = follows_nothing code lines model h
@@ -174,86 +237,66 @@ still_running start code before after limits at place running within so_far =
     let part = so_far model copy.0 running.1 copy.1 in
     ((network.give_each limits (numbered (at + 1) copy.0) model (network.addressees_from 0 copy.0 (take place model.systems))).world, part.holds)
 
--- whether the copy is for the system at the place, when those before it have it
-tells_then : (start mid : Network) (before between : Taken) (limits : Limits) (at place : ℕ) (answer : Bool) (model : network.LabelledNetwork) (copy : network.Copy) (system : SystemState)
-    → Gives start mid before between limits at place → TellsAddressee mid at place answer
-    → Holds start model → slice_get model.copies at ≡ Some copy → slice_get model.systems place ≡ Some system
-    → answer ≡ network.is_addressee copy system
-tells_then start mid before between limits at place answer model copy system so_far tells h there here =
+-- the system at a place is the next one that the copy is for, behind those below another
+abbrev pub LeadsTo : Network → (at from place : ℕ) → Type 0
+LeadsTo start at from place =
+    (model : network.LabelledNetwork) (copy : network.Copy) → Holds start model → slice_get model.copies at ≡ Some copy
+    → network.addressees_from 0 copy (take (place + 1) model.systems) ≡ network.addressees_from 0 copy (take from model.systems) ++ place ∷ []
+
+-- the copy is for none but those below a place
+abbrev pub LeadsNowhere : Network → (at from : ℕ) → Type 0
+LeadsNowhere start at from =
+    (model : network.LabelledNetwork) (copy : network.Copy) → Holds start model → slice_get model.copies at ≡ Some copy
+    → network.addressees_from 0 copy (take from model.systems) ≡ network.addressees_from 0 copy model.systems
+
+-- what is next when those before have the copy was next at the start
+pub leads_to : (start mid : Network) (before between : Taken) (limits : Limits) (at from : ℕ) (next : Addressee)
+    → Gives start mid before between limits at from → TellsNext mid at from (Some next) → LeadsTo start at from next.place
+leads_to start mid before between limits at from next so_far tells model copy h there =
     let given = numbered (at + 1) copy in
-    let ps = network.addressees_from 0 copy (take place model.systems) in
+    let ps = network.addressees_from 0 copy (take from model.systems) in
     let w = network.give_each limits given model ps in
     let part = so_far model copy h there in
-    let now = same_seat w.world.systems model.systems place system (seats-give_each limits given model ps) here in
-    tells w.world copy now.0 part.holds.shows (copy-give_each limits given model ps at copy there) now.1
-    ∙ same_addressee copy now.0 system now.2
+    let seats = seats-give_each limits given model ps in
+    let told = tells w.world copy part.holds.shows (copy-give_each limits given model ps at copy there) in
+    places_more from next.place copy model.systems
+    (sym (same_from from copy w.world.systems model.systems seats) ∙ told.0
+    ∙ ap (λ (qs : List ℕ). next.place ∷ qs) (same_from (next.place + 1) copy w.world.systems model.systems seats))
 
--- one more system is looked at, whether the copy is for it
-addressees_next : (start mid : Network) (before between : Taken) (limits : Limits) (at place : ℕ) (answer : Bool)
-    → Gives start mid before between limits at place → place < length start.systems.items → TellsAddressee mid at place answer
-    → (model : network.LabelledNetwork) (copy : network.Copy) → Holds start model → slice_get model.copies at ≡ Some copy
-    → network.addressees_from 0 copy (take (place + 1) model.systems)
-    ≡ network.addressees_from 0 copy (take place model.systems) ++ cond answer (place ∷ []) []
-addressees_next start mid before between limits at place answer so_far within tells model copy h there =
-    let system = system_there start model place h.shows within in
-    let ps = network.addressees_from 0 copy (take place model.systems) in
-    let is = tells_then start mid before between limits at place answer model copy system.0 so_far tells h there system.1 in
-    addressees_from-take copy model.systems place system.0 system.1 ∙ ap (λ (b : Bool). ps ++ cond b (place ∷ []) []) (sym is)
+pub leads_nowhere : (start mid : Network) (before between : Taken) (limits : Limits) (at from : ℕ)
+    → Gives start mid before between limits at from → TellsNext mid at from None → LeadsNowhere start at from
+leads_nowhere start mid before between limits at from so_far tells model copy h there =
+    let given = numbered (at + 1) copy in
+    let ps = network.addressees_from 0 copy (take from model.systems) in
+    let w = network.give_each limits given model ps in
+    let part = so_far model copy h there in
+    places_all from copy model.systems
+    (sym (same_from from copy w.world.systems model.systems (seats-give_each limits given model ps))
+    ∙ tells w.world copy part.holds.shows (copy-give_each limits given model ps at copy there))
 
-pub gives_more : (start mid code : Network) (before between after : Taken) (limits : Limits) (at place : ℕ)
-    → Gives start mid before between limits at place → place < length start.systems.items → TellsAddressee mid at place true
+pub gives_more : (start mid code : Network) (before between after : Taken) (limits : Limits) (at from place : ℕ)
+    → Gives start mid before between limits at from → LeadsTo start at from place
     → ((model : network.LabelledNetwork) (copy : network.Copy) → Holds mid model → slice_get model.copies at ≡ Some copy
     → Follows code between after (network.give limits (numbered (at + 1) copy) model place))
     → Gives start code before after limits at (place + 1)
-gives_more start mid code before between after limits at place so_far within tells next model copy h there =
+gives_more start mid code before between after limits at from place so_far leads next model copy h there =
     let given = numbered (at + 1) copy in
-    let ps = network.addressees_from 0 copy (take place model.systems) in
+    let ps = network.addressees_from 0 copy (take from model.systems) in
     let w = network.give_each limits given model ps in
     let front = so_far model copy h there in
-    let same = addressees_next start mid before between limits at place true so_far within tells model copy h there in
     subst (λ (s : network.Step). Follows code before after s)
-    (sym (give_each-push limits given model ps place) ∙ ap (λ (qs : List ℕ). network.give_each limits given model qs) (sym same))
+    (sym (give_each-push limits given model ps place)
+    ∙ ap (λ (qs : List ℕ). network.give_each limits given model qs) (sym (leads model copy h there)))
     (follows_then code before between after w (λ v. network.give limits given v place) front.lines
     (next w.world copy front.holds (copy-give_each limits given model ps at copy there)))
 
-pub gives_skip : (start code : Network) (before after : Taken) (limits : Limits) (at place : ℕ)
-    → Gives start code before after limits at place → place < length start.systems.items → TellsAddressee code at place false
-    → Gives start code before after limits at (place + 1)
-gives_skip start code before after limits at place so_far within tells model copy h there =
-    let ps = network.addressees_from 0 copy (take place model.systems) in
-    let front = so_far model copy h there in
-    let same = addressees_next start code before after limits at place false so_far within tells model copy h there ∙ append-nil ps in
-    subst (λ (qs : List ℕ). Follows code before after (network.give_each limits (numbered (at + 1) copy) model qs)) (sym same) front
-
--- the same where the code's names differ, as after an `if`
-pub gives_more_as : (start mid given code : Network) (before between lines after : Taken) (limits : Limits) (at place : ℕ)
-    → Gives start mid before between limits at place → place < length start.systems.items → TellsAddressee mid at place true
-    → code ≡ given → after ≡ lines
-    → ((model : network.LabelledNetwork) (copy : network.Copy) → Holds mid model → slice_get model.copies at ≡ Some copy
-    → Follows given between lines (network.give limits (numbered (at + 1) copy) model place))
-    → Gives start code before after limits at (place + 1)
-gives_more_as start mid given code before between lines after limits at place so_far within tells same_code same_lines next =
-    subst (λ (w : Network). Gives start w before after limits at (place + 1)) (sym same_code)
-    (subst (λ (l : Taken). Gives start given before l limits at (place + 1)) (sym same_lines)
-    (gives_more start mid given before between lines limits at place so_far within tells next))
-
-pub gives_skip_as : (start mid code : Network) (before between after : Taken) (limits : Limits) (at place : ℕ)
-    → Gives start mid before between limits at place → place < length start.systems.items → TellsAddressee mid at place false
-    → code ≡ mid → after ≡ between
-    → Gives start code before after limits at (place + 1)
-gives_skip_as start mid code before between after limits at place so_far within tells same_code same_lines =
-    subst (λ (w : Network). Gives start w before after limits at (place + 1)) (sym same_code)
-    (subst (λ (l : Taken). Gives start mid before l limits at (place + 1)) (sym same_lines)
-    (gives_skip start mid before between limits at place so_far within tells))
-
-pub gives_all : (start code : Network) (before after : Taken) (limits : Limits) (at place : ℕ)
-    → Gives start code before after limits at place → length start.systems.items ≤ place
+pub gives_all : (start code : Network) (before after : Taken) (limits : Limits) (at from : ℕ)
+    → Gives start code before after limits at from → LeadsNowhere start at from
     → (model : network.LabelledNetwork) (copy : network.Copy) → Holds start model → slice_get model.copies at ≡ Some copy
     → Follows code before after (network.give_each limits (numbered (at + 1) copy) model (network.addressees_from 0 copy model.systems))
-gives_all start code before after limits at place so_far all model copy h there =
-    let same = each_length start.systems.items model.systems h.shows.systems in
-    subst (λ (ss : List SystemState). Follows code before after (network.give_each limits (numbered (at + 1) copy) model (network.addressees_from 0 copy ss)))
-    (take_all place model.systems (omega arith)) (so_far model copy h there)
+gives_all start code before after limits at from so_far all model copy h there =
+    subst (λ (ps : List ℕ). Follows code before after (network.give_each limits (numbered (at + 1) copy) model ps))
+    (all model copy h there) (so_far model copy h there)
 
 -- Whether a copy was given to some system.
 
@@ -274,27 +317,14 @@ TellsGiven start at place answer =
 pub given_none : (start : Network) (at : ℕ) → TellsGiven start at 0 false
 given_none start at model copy h there = refl
 
-pub given_more : (start mid : Network) (before between : Taken) (limits : Limits) (at place : ℕ) (answer : Bool)
-    → Gives start mid before between limits at place → place < length start.systems.items → TellsAddressee mid at place true
-    → answer ≡ true → TellsGiven start at (place + 1) answer
-given_more start mid before between limits at place answer so_far within tells is model copy h there =
-    let same = addressees_next start mid before between limits at place true so_far within tells model copy h there in
-    is ∙ sym (ap is_any same ∙ any_last (network.addressees_from 0 copy (take place model.systems)) place)
+pub given_more : (start : Network) (at from place : ℕ) → LeadsTo start at from place → TellsGiven start at (place + 1) true
+given_more start at from place leads model copy h there =
+    sym (ap is_any (leads model copy h there) ∙ any_last (network.addressees_from 0 copy (take from model.systems)) place)
 
-pub given_skip : (start mid : Network) (before between : Taken) (limits : Limits) (at place : ℕ) (was answer : Bool)
-    → Gives start mid before between limits at place → place < length start.systems.items → TellsAddressee mid at place false
-    → TellsGiven start at place was → answer ≡ was → TellsGiven start at (place + 1) answer
-given_skip start mid before between limits at place was answer so_far within tells given is model copy h there =
-    let same = addressees_next start mid before between limits at place false so_far within tells model copy h there in
-    is ∙ (given model copy h there ∙ sym (ap is_any (same ∙ append-nil (network.addressees_from 0 copy (take place model.systems)))))
-
-given_all : (start : Network) (at place : ℕ) (answer : Bool) → TellsGiven start at place answer → length start.systems.items ≤ place
+given_all : (start : Network) (at from : ℕ) (answer : Bool) → TellsGiven start at from answer → LeadsNowhere start at from
     → (model : network.LabelledNetwork) (copy : network.Copy) → Holds start model → slice_get model.copies at ≡ Some copy
     → answer ≡ is_any (network.addressees_from 0 copy model.systems)
-given_all start at place answer given all model copy h there =
-    let same = each_length start.systems.items model.systems h.shows.systems in
-    given model copy h there
-    ∙ ap (λ (ss : List SystemState). is_any (network.addressees_from 0 copy ss)) (take_all place model.systems (omega arith))
+given_all start at from answer given all model copy h there = given model copy h there ∙ ap is_any (all model copy h there)
 
 settled_some : (limits : Limits) (given : network.Numbered) (model : network.LabelledNetwork) (places : List ℕ) → true ≡ is_any places
     → network.settle_for limits given model places ≡ network.give_each limits given model places
@@ -312,25 +342,25 @@ Settles start code before after limits at =
     → Follows code before after (network.settle_for limits (numbered (at + 1) copy) model (network.addressees_from 0 copy model.systems))
 
 -- the copy was given to some system
-pub settles_some : (start code : Network) (before after : Taken) (limits : Limits) (at place : ℕ) → Gives start code before after limits at place
-    → TellsGiven start at place true → length start.systems.items ≤ place → Settles start code before after limits at
-settles_some start code before after limits at place so_far given all model copy h there =
+pub settles_some : (start code : Network) (before after : Taken) (limits : Limits) (at from : ℕ) → Gives start code before after limits at from
+    → TellsGiven start at from true → LeadsNowhere start at from → Settles start code before after limits at
+settles_some start code before after limits at from so_far given all model copy h there =
     let places = network.addressees_from 0 copy model.systems in
     subst (λ (s : network.Step). Follows code before after s)
-    (sym (settled_some limits (numbered (at + 1) copy) model places (given_all start at place true given all model copy h there)))
-    (gives_all start code before after limits at place so_far all model copy h there)
+    (sym (settled_some limits (numbered (at + 1) copy) model places (given_all start at from true given all model copy h there)))
+    (gives_all start code before after limits at from so_far all model copy h there)
 
 -- the copy was given to none, and a line is written that says so
-pub settles_none : (start code : Network) (before between after : Taken) (limits : Limits) (at place : ℕ)
-    → Gives start code before between limits at place → TellsGiven start at place false → length start.systems.items ≤ place
+pub settles_none : (start code : Network) (before between after : Taken) (limits : Limits) (at from : ℕ)
+    → Gives start code before between limits at from → TellsGiven start at from false → LeadsNowhere start at from
     → Gains between after (ForNobody code.clock (at + 1) ∷ []) → Settles start code before after limits at
-settles_none start code before between after limits at place so_far given all line model copy h there =
+settles_none start code before between after limits at from so_far given all line model copy h there =
     let number = at + 1 in
     let places = network.addressees_from 0 copy model.systems in
-    let none = none_there places (given_all start at place false given all model copy h there) in
+    let none = none_there places (given_all start at from false given all model copy h there) in
     let front : Follows code before between (network.nothing model)
     = subst (λ (ps : List ℕ). Follows code before between (network.give_each limits (numbered number copy) model ps)) none
-    (gives_all start code before between limits at place so_far all model copy h there) in
+    (gives_all start code before between limits at from so_far all model copy h there) in
     let told = subst (λ (now : ℕ). Gains between after (ForNobody now number ∷ [])) front.holds.shows.clock line in
     subst (λ (ps : List ℕ). Follows code before after (network.settle_for limits (numbered number copy) model ps)) (sym none)
     record { holds = front.holds; lines = gains_more before between after [] (ForNobody model.clock number ∷ []) front.lines told }

@@ -3,6 +3,7 @@ pub mod LineSteps
 pub mod EachSteps
 pub mod PutSteps
 pub mod TakeSteps
+pub mod NextSteps
 pub mod GiveSteps
 pub mod TellSteps
 pub mod SendSteps

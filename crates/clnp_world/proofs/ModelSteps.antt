@@ -297,30 +297,6 @@ tick_each-more w n =
     (range_push 0 n ∙ ap (λ (i : ℕ). range_with_len 0 n ++ i ∷ []) (zero-add n))
     ∙ each-push tick_at network.tick_each (λ v. refl) (λ v first others. refl) w (range_with_len 0 n) n
 
--- the place of one more system, where the copy is for it
-addressees_from-push : (k : ℕ) (copy : network.Copy) (systems : List SystemState) (system : SystemState)
-    → network.addressees_from k copy (systems ++ system ∷ [])
-    ≡ network.addressees_from k copy systems ++ cond (network.is_addressee copy system) ((k + length systems) ∷ []) []
-addressees_from-push k copy [] system = rw add-zero refl
-addressees_from-push k copy (first ∷ systems) system =
-    let e : (k + 1) + length systems ≡ k + suc (length systems) = omega arith in
-    let h : network.addressees_from (k + 1) copy (systems ++ system ∷ [])
-    ≡ network.addressees_from (k + 1) copy systems ++ cond (network.is_addressee copy system) ((k + suc (length systems)) ∷ []) []
-    = rw e at (addressees_from-push (k + 1) copy systems system) in
-    elim (network.is_addressee copy first) as (λ b. cond b (k ∷ network.addressees_from (k + 1) copy (systems ++ system ∷ [])) (network.addressees_from (k + 1) copy (systems ++ system ∷ []))
-    ≡ cond b (k ∷ network.addressees_from (k + 1) copy systems) (network.addressees_from (k + 1) copy systems) ++ cond (network.is_addressee copy system) ((k + suc (length systems)) ∷ []) [])
-    [ true ↦ ap (λ (ps : List ℕ). k ∷ ps) h | false ↦ h ]
-
--- one more system is looked at
-pub addressees_from-take : (copy : network.Copy) (systems : List SystemState) (i : ℕ) (system : SystemState) → slice_get systems i ≡ Some system
-    → network.addressees_from 0 copy (take (i + 1) systems)
-    ≡ network.addressees_from 0 copy (take i systems) ++ cond (network.is_addressee copy system) (i ∷ []) []
-addressees_from-take copy systems i system e =
-    let r = take_push systems i system e in
-    ap (λ (ss : List SystemState). network.addressees_from 0 copy ss) r.0 ∙ addressees_from-push 0 copy (take i systems) system
-    ∙ ap (λ (n : ℕ). network.addressees_from 0 copy (take i systems) ++ cond (network.is_addressee copy system) (n ∷ []) [])
-    (zero-add (length (take i systems)) ∙ r.1)
-
 states_from-push : (limits : Limits) (k : ℕ) (systems : List SystemConfiguration) (system : SystemConfiguration)
     → network.states_from limits k (systems ++ system ∷ [])
     ≡ network.states_from limits k systems ++ first_state (k + length systems) system limits 0 0 ∷ []

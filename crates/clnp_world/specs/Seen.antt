@@ -1,14 +1,15 @@
 -- What the code's copies are in the model.
-use Rattle.std.specs.Prelude.{◌≡◌, ℕ, ◌+◌, ◌==◌, ◌&&◌, Bool, true, false, List, [], ◌∷◌, length, map, sum, Option, None, Some}
+use Rattle.std.specs.Prelude.{◌≡◌, ℕ, ◌+◌, ◌==◌, ◌&&◌, Bool, true, false, List, [], ◌∷◌, drop, length, map, slice_get, sum, Option, None, Some}
 use Rattle.clnp_machine.specs.Nsap.declared.target.Target.{Target}
 use Rattle.clnp_machine.specs.ClnpPlan.declared.config.PortConfig.{PortConfig}
 use Rattle.clnp_machine.specs.ClnpPlan.declared.config.Role.{Role}
 use Rattle.clnp_machine.specs.Content.{frame_of}
 use Rattle.clnp_machine.specs.Unit.{Maker, DeclaredAt, Outside}
 use Rattle.clnp_machine.specs.System.{SystemState}
-use Rattle.clnp_network.specs.LabelledNetwork.{Copy, first_port, is_addressee, reaches}
+use Rattle.clnp_network.specs.LabelledNetwork.{Copy, addressees_from, first_port, is_addressee, reaches}
 use Rattle.clnp_world.specs.declared.copy.FrameCopy.{FrameCopy}
 use Rattle.clnp_world.specs.declared.copy.Origin.{Origin}
+use Rattle.clnp_world.specs.declared.network.giving.Addressee.{Addressee}
 
 -- the place of a maker among the declarations, where it was declared
 abbrev pub place_of : Maker → Option ℕ
@@ -45,6 +46,15 @@ abbrev pub IsPortFor : Copy → SystemState → Option ℕ → Type 0
 IsPortFor copy system None = false ≡ is_addressee copy system
 IsPortFor copy system (Some port) =
     (true ≡ is_addressee copy system) × (port ≡ first_port copy system.configuration.role system.attached.ports)
+
+-- The first of those systems, from a place on, that a copy of the model is for, and the least of its ports by which the copy comes
+-- in; or the copy is for none of them.
+abbrev pub IsNextAddressee : Copy → List SystemState → (from : ℕ) → Option Addressee → Type 0
+IsNextAddressee copy systems from None = addressees_from from copy (drop from systems) ≡ []
+IsNextAddressee copy systems from (Some next) =
+    (addressees_from from copy (drop from systems) ≡ next.place ∷ addressees_from (next.place + 1) copy (drop (next.place + 1) systems))
+    × ((system : SystemState) → slice_get systems next.place ≡ Some system
+    → next.port ≡ first_port copy system.configuration.role system.attached.ports)
 
 -- what copies weigh: the octets of their frames, and 64 for each
 abbrev pub frames_weight : List FrameCopy → ℕ

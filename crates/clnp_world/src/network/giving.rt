@@ -1,11 +1,11 @@
 //! Copies that are given to the systems that they are for.
-ghost use Rattle.std.specs.Prelude.{◌≡◌, ◌+◌, ◌<◌, ◌≤◌, ◌∷◌, [], OnOk, Some, slice_get, vec_len};
+ghost use Rattle.std.specs.Prelude.{◌≡◌, ◌+◌, ◌<◌, ◌≤◌, ◌∷◌, [], IfSome, OnOk, Some, slice_get, vec_len};
 ghost use Rattle.clnp_machine.specs.System.{SystemState};
 ghost use Rattle.clnp_network.specs.LabelledNetwork as network;
 ghost use Rattle.clnp_machine.specs.ClnpPlan.Journal.{Late, Received, Void};
 ghost use Rattle.clnp_world.specs.Lines.{Gains};
 ghost use Rattle.clnp_world.specs.Parts.{Follows, Holds, IsRunning, Shows};
-ghost use Rattle.clnp_world.specs.Seen.{IsPortFor, place_of};
+ghost use Rattle.clnp_world.specs.Seen.{IsNextAddressee, IsPortFor, place_of};
 ghost use Rattle.clnp_machine.specs.Unit.{Maker};
 
 use super::Network;
@@ -16,6 +16,15 @@ use clnp_machine::base::NoMemory;
 use clnp_machine::system_plan::Limits;
 use clnp_systems::Input;
 use std::alloc::Global;
+
+/// A system that a copy is for.
+#[derive(Clone, Copy)]
+struct Addressee {
+    /// Among the declarations.
+    place: usize,
+    /// The least of its ports by which the copy comes in.
+    port: u8,
+}
 
 impl Network {
     /// Gives the copy with a number to the system at a place, where it is for it; else a line says that
@@ -80,12 +89,12 @@ impl Network {
             (network.settle_for limits (record { number = at + 1; copy = copy }) model (network.addressees_from 0 copy model.systems))) }
     {
         let number = at as u64 + 1;
+        let mut from = 0;
         let mut given = false;
-        for place in 0..self.systems.len() {
-            if let Some(port) = self.port_for(at, place) {
-                self.give(alloc, limits, number, at, place, port, lines)?;
-                given = true;
-            }
+        while let Some(next) = self.next_addressee(at, from) {
+            self.give(alloc, limits, number, at, next.place, next.port, lines)?;
+            from = next.place + 1;
+            given = true;
         }
         if given {
             return Ok(());
@@ -97,7 +106,24 @@ impl Network {
         lines.take(alloc, &line)
     }
 
+    /// The next system that a copy is for, from a place on in the order of the declarations, and the least of its ports by which
+    /// the copy comes in. Nothing changes while it is looked for, so the copy is read once for all of them.
+    fn next_addressee(&self, at: usize, from: usize) -> Option<Addressee>
+        requires at_in { at < vec_len self.now.copies }
+        ensures next { (model : network.LabelledNetwork) (copy : network.Copy) → Shows self.now model
+            → slice_get model.copies at ≡ Some copy → IsNextAddressee copy model.systems from result }
+        ensures within { IfSome result (λ next. (from ≤ next.place) × (next.place < vec_len self.now.systems)) }
+    {
+        for place in from..self.systems.len() {
+            if let Some(port) = self.port_for(at, place) {
+                return Some(Addressee { place, port });
+            }
+        }
+        None
+    }
+
     /// The least of the ports of the system at a place by which a copy comes in, if it is for that system as it now is.
+    #[inline(always)]
     fn port_for(&self, at: usize, place: usize) -> Option<u8>
         requires at_in { at < vec_len self.now.copies }
         requires place_in { place < vec_len self.now.systems }

@@ -1,7 +1,7 @@
 -- The copy is there, and it is for the system or not.
 use Rattle.std.proofs.Common.{ℕ, Option, arith, subst}
 use Rattle.std.proofs.lemmas.Result.{on_ok_weaker}
-use Rattle.clnp_world.proofs.GiveSteps.{GivesBy, TellsPort, delivers, delivers_nowhere, delivers_none, delivers_other, gives_by, tells_none, tells_some}
+use Rattle.clnp_world.proofs.GiveSteps.{GivesBy, TellsPort, delivers, delivers_nowhere, delivers_none, delivers_other, gives_by, port_told, tells_none, tells_some}
 use Rattle.clnp_world.proofs.network.Network.deliver.Goals as goal
 
 pub returns-then-place-len : goal.returns-then-place-len
@@ -36,6 +36,6 @@ returns-in-Some g c =
     delivers old c.give.new.self (g.L.LineSink.taken c.args.lines.now) (g.L.LineSink.taken c.give.new.lines) c.args.limits c.args.number at c.args.place
     (omega arith) (omega (arith, old.systems.ok.0)) (omega (arith, old.copies.ok.0)) (tells_some old at c.args.place port tells)
     (gives_by old c.give.new.self (g.L.LineSink.taken c.args.lines.now) (g.L.LineSink.taken c.give.new.lines) c.args.limits c.args.number at c.args.place port
-    (omega (arith, old.systems.ok.0)) tells
+    (omega (arith, old.systems.ok.0)) (port_told old at c.args.place port tells)
     (subst (λ (n : ℕ). GivesBy old c.give.new.self (g.L.LineSink.taken c.args.lines.now) (g.L.LineSink.taken c.give.new.lines) c.args.limits n at c.args.place port) c.from.ensures gives)))
     c.give.ensures.follows

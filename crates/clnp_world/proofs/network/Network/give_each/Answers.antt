@@ -1,62 +1,62 @@
--- One system after another is looked at.
-use Rattle.std.proofs.Common.{◌∙◌, ◌≡◌, ◌+◌, ◌≤◌, ℕ, Bool, Option, ap, sym, subst, arith, vec_len}
+-- One addressee after another is given the copy.
+use Rattle.std.proofs.Common.{◌∙◌, ◌+◌, Bool, Option, arith, subst}
 use Rattle.std.proofs.lemmas.Result.{on_ok_weaker}
-use Rattle.clnp_world.specs.declared.network.Network.{Network}
-use Rattle.clnp_world.proofs.GiveSteps.{TellsGiven, TellsPort, given_more, given_skip, gives_by, gives_more_as, gives_skip_as, settles_none, settles_some, still_running, tells_none, tells_some}
+use Rattle.clnp_world.specs.declared.network.giving.Addressee.{Addressee}
+use Rattle.clnp_world.proofs.GiveSteps.{TellsGiven, TellsNext, given_more, gives_by, gives_more, leads_nowhere, leads_to, next_port, settles_none, settles_some, still_running}
 use Rattle.clnp_world.proofs.network.Network.give_each.Goals as goal
-use Rattle.clnp_world.proofs.network.Network.give_each.Goals.{in-Some+in_ok-give, in_default}
 
 pub give-requires-clause-running : goal.give-requires-clause-running
 give-requires-clause-running g c =
-    still_running c.args.self.now c.loop-place.self (g.L.LineSink.taken c.args.lines.now) (g.L.LineSink.taken c.loop-place.lines) c.args.limits c.args.at c.loop-place.place
-    c.requires.running (omega (arith, c.args.self.now.copies.ok.0)) c.loop-place.invariant.gives
+    still_running c.args.self.now c.loop-next.self (g.L.LineSink.taken c.args.lines.now) (g.L.LineSink.taken c.loop-next.lines) c.args.limits c.args.at c.loop-next.from
+    c.requires.running (omega (arith, c.args.self.now.copies.ok.0)) c.loop-next.invariant.gives
 
-pub loop-place-preserved : goal.loop-place-preserved
-loop-place-preserved g c =
+pub loop-next-preserved : goal.loop-next-preserved
+loop-next-preserved g c =
     let old = c.args.self.now in
+    let code = c.loop-next.self in
+    let new = c.give.new.self in
+    let before = g.L.LineSink.taken c.args.lines.now in
+    let between = g.L.LineSink.taken c.loop-next.lines in
+    let after = g.L.LineSink.taken c.give.new.lines in
     let at = c.args.at in
-    let place = c.loop-place.place in
-    let tells = λ (found : Option ℕ). TellsPort c.loop-place.self at place found in
-    elim c.match-port_for.branch [
-      | in-Some+in_ok-give w ↦
-          let port = w.in-Some.port in
-          let found = subst tells w.in-Some.is c.port_for.ensures in
-          let is_for = tells_some c.loop-place.self at place port found in
-          record {
-            gives = gives_more_as old c.loop-place.self w.give.new.self c.match-port_for.self (g.L.LineSink.taken c.args.lines.now) (g.L.LineSink.taken c.loop-place.lines)
-                (g.L.LineSink.taken w.give.new.lines) (g.L.LineSink.taken c.match-port_for.lines) c.args.limits at place c.loop-place.invariant.gives
-                (omega (arith, old.systems.ok.0)) is_for w.self-is (ap g.L.LineSink.taken w.lines-is)
-                (gives_by c.loop-place.self w.give.new.self (g.L.LineSink.taken c.loop-place.lines) (g.L.LineSink.taken w.give.new.lines) c.args.limits (at + 1) at place port
-                (omega (arith, c.loop-place.invariant.systems, old.systems.ok.0, c.loop-place.self.systems.ok.0)) found w.in_ok-give.ensures.follows);
-            given = given_more old c.loop-place.self (g.L.LineSink.taken c.args.lines.now) (g.L.LineSink.taken c.loop-place.lines) c.args.limits at place
-                c.match-port_for.given c.loop-place.invariant.gives (omega (arith, old.systems.ok.0)) is_for w.given-is;
-            systems = subst (λ (v : Network). vec_len v.systems ≡ vec_len old.systems) (sym w.self-is)
-                (w.in_ok-give.ensures.systems ∙ c.loop-place.invariant.systems);
-            copies = subst (λ (v : Network). vec_len old.copies ≤ vec_len v.copies) (sym w.self-is) (omega (arith, w.in_ok-give.ensures.copies));
-          }
-      | in_default w ↦
-          let is_for = tells_none c.loop-place.self at place (subst tells w.in_default.is c.port_for.ensures) in
-          record {
-            gives = gives_skip_as old c.loop-place.self c.match-port_for.self (g.L.LineSink.taken c.args.lines.now) (g.L.LineSink.taken c.loop-place.lines) (g.L.LineSink.taken c.match-port_for.lines)
-                c.args.limits at place c.loop-place.invariant.gives (omega (arith, old.systems.ok.0)) is_for w.self-is (ap g.L.LineSink.taken w.lines-is);
-            given = given_skip old c.loop-place.self (g.L.LineSink.taken c.args.lines.now) (g.L.LineSink.taken c.loop-place.lines) c.args.limits at place
-                c.loop-place.given c.match-port_for.given c.loop-place.invariant.gives (omega (arith, old.systems.ok.0)) is_for
-                c.loop-place.invariant.given w.given-is;
-            systems = subst (λ (v : Network). vec_len v.systems ≡ vec_len old.systems) (sym w.self-is) c.loop-place.invariant.systems;
-            copies = subst (λ (v : Network). vec_len old.copies ≤ vec_len v.copies) (sym w.self-is) c.loop-place.invariant.copies;
-          }
-    ]
+    let from = c.loop-next.from in
+    let next = c.in-Some.next in
+    let tells = subst (λ (found : Option Addressee). TellsNext code at from found) c.in-Some.is c.next_addressee.ensures.next in
+    let leads = leads_to old code before between c.args.limits at from next c.loop-next.invariant.gives tells in
+    let within = c.in-Some.ensures.within in
+    record {
+      gives = gives_more old code new before between after c.args.limits at from next.place c.loop-next.invariant.gives leads
+          (gives_by code new between after c.args.limits (at + 1) at next.place next.port (omega (arith, within, code.systems.ok.0))
+          (next_port code at from next tells) c.in_ok-give.ensures.follows);
+      given = given_more old at from next.place leads;
+      systems = c.in_ok-give.ensures.systems ∙ c.loop-next.invariant.systems;
+      copies = omega (arith, c.in_ok-give.ensures.copies, c.loop-next.invariant.copies);
+    }
 
 pub returns-then-given : goal.returns-then-given
 returns-then-given g c =
-    let given = λ (b : Bool). TellsGiven c.args.self.now c.args.at c.loop-place.place b in
-    settles_some c.args.self.now c.loop-place.self (g.L.LineSink.taken c.args.lines.now) (g.L.LineSink.taken c.loop-place.lines) c.args.limits c.args.at c.loop-place.place
-    c.loop-place.invariant.gives (subst given c.if-given.true c.loop-place.invariant.given) (omega (arith, c.args.self.now.systems.ok.0))
+    let old = c.args.self.now in
+    let code = c.loop-next.self in
+    let before = g.L.LineSink.taken c.args.lines.now in
+    let between = g.L.LineSink.taken c.loop-next.lines in
+    let at = c.args.at in
+    let from = c.loop-next.from in
+    settles_some old code before between c.args.limits at from c.loop-next.invariant.gives
+    (subst (λ (b : Bool). TellsGiven old at from b) c.if-given.true c.loop-next.invariant.given)
+    (leads_nowhere old code before between c.args.limits at from c.loop-next.invariant.gives
+    (subst (λ (found : Option Addressee). TellsNext code at from found) c.in_default.is c.next_addressee.ensures.next))
 
 pub returns : goal.returns
 returns g c =
-    let given = λ (b : Bool). TellsGiven c.args.self.now c.args.at c.loop-place.place b in
+    let old = c.args.self.now in
+    let code = c.loop-next.self in
+    let before = g.L.LineSink.taken c.args.lines.now in
+    let between = g.L.LineSink.taken c.loop-next.lines in
+    let at = c.args.at in
+    let from = c.loop-next.from in
     on_ok_weaker c.take.result
-    (settles_none c.args.self.now c.loop-place.self (g.L.LineSink.taken c.args.lines.now) (g.L.LineSink.taken c.loop-place.lines) (g.L.LineSink.taken c.take.new.self) c.args.limits c.args.at c.loop-place.place
-    c.loop-place.invariant.gives (subst given c.if-given.false c.loop-place.invariant.given) (omega (arith, c.args.self.now.systems.ok.0)))
+    (settles_none old code before between (g.L.LineSink.taken c.take.new.self) c.args.limits at from c.loop-next.invariant.gives
+    (subst (λ (b : Bool). TellsGiven old at from b) c.if-given.false c.loop-next.invariant.given)
+    (leads_nowhere old code before between c.args.limits at from c.loop-next.invariant.gives
+    (subst (λ (found : Option Addressee). TellsNext code at from found) c.in_default.is c.next_addressee.ensures.next)))
     c.take.ensures
