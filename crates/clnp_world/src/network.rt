@@ -34,7 +34,7 @@ pub(crate) struct Network {
     pub(crate) cursor: usize,
     /// The octets of all copies, and 64 for each.
     pub(crate) weight: u64,
-    /// Room for what a system gives out, which is made once.
+    /// What a system gave out when something came to it last, in room that is made once.
     pub(crate) outputs: Vec<Output>,
 }
 

@@ -1,5 +1,5 @@
 //! What comes to the systems.
-ghost use Rattle.std.specs.Prelude.{◌≡◌, ◌≤◌, OnOk, Some, slice_get, vec_len};
+ghost use Rattle.std.specs.Prelude.{◌≡◌, ◌≤◌, [], OnOk, Some, slice_get, vec_len};
 ghost use Rattle.clnp_machine.specs.Content.{Content};
 ghost use Rattle.clnp_network.specs.LabelledNetwork as network;
 ghost use Rattle.clnp_systems.specs.Stands.{entity_of};
@@ -12,11 +12,10 @@ use super::Network;
 use crate::copy::Origin;
 use crate::lines::LineSink;
 use clnp_machine::base::NoMemory;
-use clnp_machine::system_plan::Ask;
+use clnp_machine::system_plan::{Ask, Output};
 use clnp_machine::views::Frame;
 use clnp_systems::Input;
 use std::alloc::Global;
-use std::mem;
 
 impl Network {
     /// Something comes to the system at a place, where there is one, and what the system gives out goes out. A frame that
@@ -44,12 +43,19 @@ impl Network {
         }
         // Its clause: what isn't forwarded is of a unit that the system itself made.
         clnp_machine::laws::first_transmissions_are_its_own();
-        let mut outputs = mem::replace(&mut self.outputs, Vec::new(alloc));
+        empty(&mut self.outputs);
+        self.systems[place].step(alloc, input, &mut self.outputs)?;
+        self.put_all_out(alloc, place, came, lines)
+    }
+}
+
+/// Leaves no outputs. Mostly there are none, and then none are gone through.
+#[inline(always)]
+fn empty(outputs: &mut Vec<Output>)
+    ensures { outputs.new.items ≡ [] }
+{
+    if !outputs.is_empty() {
         outputs.clear();
-        self.systems[place].step(alloc, input, &mut outputs)?;
-        self.put_all_out(alloc, place, came, &outputs, lines)?;
-        self.outputs = outputs;
-        Ok(())
     }
 }
 

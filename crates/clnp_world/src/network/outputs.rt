@@ -1,5 +1,6 @@
 //! What systems give out: frames become copies on a subnetwork, and notes lines.
 ghost use Rattle.std.specs.Prelude.{◌≡◌, ◌+◌, ◌<◌, ◌≤◌, ◌^◌, if◌then◌else◌, List, [], ◌∷◌, IfNone, IfSome, OnOk, Some, length, slice_get, vec_len};
+ghost use Rattle.clnp_machine.specs.ClnpPlan.declared.output.Output.{Output};
 ghost use Rattle.clnp_machine.specs.Content.{Content};
 ghost use Rattle.clnp_machine.specs.Given.{GiveAll, Gives};
 ghost use Rattle.clnp_machine.specs.System as machine;
@@ -26,57 +27,61 @@ use std::alloc::Global;
 const COPY_WEIGHT: u64 = 64;
 
 impl Network {
-    /// Puts the outputs of the system at a place on the network, in their order. The frame that the system was given has the
-    /// origin `came`; where none was, nothing goes on, and any origin serves.
+    /// Puts the outputs, which are of the system at a place, on the network, in their order. The frame that the system
+    /// was given has the origin `came`; where none was, nothing goes on, and any origin serves.
     pub(super) fn put_all_out<L: LineSink>(
         &mut self,
         alloc: Global,
         place: usize,
         came: Origin,
-        outputs: &[Output],
         lines: &mut L,
     ) -> Result<(), NoMemory>
         requires { place < vec_len self.old.systems }
         ensures puts { OnOk result ((model : network.LabelledNetwork) (system : SystemState) (content : Content) (others : List machine.Output)
             → Shows self.old model → slice_get model.systems place ≡ Some system → IsMadeWithUnit came content
-            → AllByRecursion (IsOwnWhereFirst system) others → GiveAll system.moment (Some content) outputs.now others
+            → AllByRecursion (IsOwnWhereFirst system) others → GiveAll system.moment (Some content) self.old.outputs.items others
             → Puts self.new (L.taken lines.old) (L.taken lines.new) (network.put_all_out system model others)) }
         ensures systems { self.new.systems ≡ self.old.systems }
         ensures clock { self.new.clock ≡ self.old.clock }
         ensures copies { vec_len self.old.copies ≤ vec_len self.new.copies }
     {
-        for output in outputs {
-            self.put_out(alloc, place, came, output, lines)?;
+        for at in 0..self.outputs.len() {
+            self.put_out(alloc, place, came, at, lines)?;
         }
         Ok(())
     }
 
-    /// Puts an output of the system at a place on the network: its note is written, or its frame put on
-    /// the port's subnetwork. The frame that the system was given has the origin `came`.
+    /// Puts one of the outputs, which is of the system at a place, on the network: its note is written, or its frame put
+    /// on the port's subnetwork. The frame that the system was given has the origin `came`.
     fn put_out<L: LineSink>(
         &mut self,
         alloc: Global,
         place: usize,
         came: Origin,
-        output: &Output,
+        at: usize,
         lines: &mut L,
     ) -> Result<(), NoMemory>
-        requires { place < vec_len self.old.systems }
-        ensures puts { OnOk result ((model : network.LabelledNetwork) (system : SystemState) (content : Content) (other : machine.Output)
+        requires place_in { place < vec_len self.old.systems }
+        requires at_in { at < vec_len self.old.outputs }
+        ensures puts { OnOk result ((output : Output) → slice_get self.old.outputs.items at ≡ Some output
+            → (model : network.LabelledNetwork) (system : SystemState) (content : Content) (other : machine.Output)
             → Shows self.old model → slice_get model.systems place ≡ Some system → IsMadeWithUnit came content
-            → IsOwnWhereFirst system other → Gives system.moment (Some content) output.now other
+            → IsOwnWhereFirst system other → Gives system.moment (Some content) output other
             → Puts self.new (L.taken lines.old) (L.taken lines.new) (network.put_out system model other)) }
         ensures systems { self.new.systems ≡ self.old.systems }
         ensures clock { self.new.clock ≡ self.old.clock }
+        ensures outputs { self.new.outputs ≡ self.old.outputs }
         ensures copies { vec_len self.old.copies ≤ vec_len self.new.copies }
     {
-        match output {
+        match &self.outputs[at] {
             Output::Note(note) => self.write_note(alloc, place, note, lines),
             Output::Transmit(sending) => {
                 let frame = sending.frame.share()?;
                 self.write_transmission(alloc, place, sending.port, sending.to, &frame, lines)?;
                 let origin = self.origin_of(place, sending, came);
-                self.put_copy(place, sending.port, sending.to, origin, frame)
+                let port = sending.port;
+                let target = sending.to;
+                self.put_copy(place, port, target, origin, frame)
             }
         }
     }

@@ -1,11 +1,10 @@
 -- The system takes a step, and what it gives out is put out.
-use Rattle.std.proofs.Common.{List, arith, refl, subst}
+use Rattle.std.proofs.Common.{arith, refl}
 use Rattle.std.proofs.lemmas.Option.{slice_get_read}
-use Rattle.clnp_machine.specs.ClnpPlan.declared.output.Output.{Output}
+use Rattle.std.proofs.lemmas.Result.{on_ok_weaker}
 use Rattle.clnp_systems.specs.Stands.{role_of}
 use Rattle.clnp_systems.specs.SystemEntity.Steps.{input_with}
-use Rattle.clnp_world.proofs.PutSteps.{PutsOut}
-use Rattle.clnp_world.proofs.TakeSteps.{comes_there, comes_to_none, with_node}
+use Rattle.clnp_world.proofs.TakeSteps.{comes_there, comes_to_none}
 use Rattle.clnp_world.proofs.network.Network.comes.Goals as goal
 
 pub returns-then-place-len-clause-follows : goal.returns-then-place-len-clause-follows
@@ -22,13 +21,9 @@ pub returns-clause-follows : goal.returns-clause-follows
 returns-clause-follows g c =
     let old = c.args.self.now in
     let node = c.index_mut.result.now in
-    λ model content h carries born timely.
-    let put = comes_there c.first_transmissions_are_its_own.ensures old c.put_all_out.new.self (g.L.LineSink.taken c.args.lines.now) (g.L.LineSink.taken c.put_all_out.new.lines) c.args.place c.args.came
-    content c.args.input.now (role_of node) node c.step.new.self c.clear.new.self.items c.step.new.out.items
+    on_ok_weaker c.put_all_out.result (λ puts model content h carries born timely.
+    comes_there c.first_transmissions_are_its_own.ensures old c.put_all_out.new.self (g.L.LineSink.taken c.args.lines.now) (g.L.LineSink.taken c.put_all_out.new.lines)
+    c.args.place c.args.came content c.args.input.now (role_of node) node c.step.new.self c.empty.new.outputs.items c.step.new.out.items
     (slice_get_read old.systems.items _ c.args.place node refl (omega (arith, old.systems.ok.0)) c.index_mut.ensures.value)
-    c.clear.ensures.items (c.in_ok-step.ensures.step content carries)
-    (subst (λ (given : List Output). PutsOut (with_node old c.args.place c.step.new.self) c.put_all_out.new.self (g.L.LineSink.taken c.args.lines.now)
-    (g.L.LineSink.taken c.put_all_out.new.lines) c.args.place c.args.came given) c.deref.ensures.value c.in_ok-put_all_out.ensures.puts)
-    model h born timely in
-    -- the room for outputs shows nothing
-    record { holds = put.holds; lines = put.lines }
+    c.empty.ensures (c.in_ok-step.ensures.step content carries) puts model h born timely)
+    c.put_all_out.ensures.puts
