@@ -1,3 +1,4 @@
+pub mod FirstSteps
 pub mod ModelSteps
 pub mod LineSteps
 pub mod EachSteps

@@ -43,6 +43,7 @@ pub(crate) fn is_to_group(copy: &FrameCopy) -> bool
 
 /// The least of the ports of a system of a role by which a copy comes in, if it is for the system. An octet numbers each
 /// port.
+#[inline(always)]
 pub(crate) fn first_port(copy: &FrameCopy, role: Role, ports: &[PortConfig]) -> Option<u8>
     requires { length ports.now ≤ 8 }
     ensures { result ≡ position (enters copy.now role) ports.now }
@@ -54,14 +55,21 @@ pub(crate) fn first_port(copy: &FrameCopy, role: Role, ports: &[PortConfig]) -> 
 }
 
 /// The same, as a place among the ports.
+#[inline(always)]
 fn entrance(copy: &FrameCopy, role: Role, ports: &[PortConfig]) -> Option<usize>
     ensures place { result ≡ position (enters copy.now role) ports.now }
     ensures within { IfSome result (λ place. place < length ports.now) }
 {
-    ports.iter().position(|port| enters(copy, role, port))
+    for place in 0..ports.len() {
+        if enters(copy, role, &ports[place]) {
+            return Some(place);
+        }
+    }
+    None
 }
 
 /// Whether a copy comes in by a port of a system of a role.
+#[inline(always)]
 fn enters(copy: &FrameCopy, role: Role, port: &PortConfig) -> bool
     ensures { result ≡ enters copy.now role port.now }
 {
@@ -70,6 +78,7 @@ fn enters(copy: &FrameCopy, role: Role, port: &PortConfig) -> bool
 
 /// Whether a target reaches a port with its own address: a single system by its address, a group by
 /// its role, and never its sender (ISO 9542, section 5.3).
+#[inline(always)]
 fn reaches(role: Role, target: &Target, sender: &Snpa, own: &Snpa) -> bool
     ensures { result ≡ network.reaches role target.now sender.now own.now }
 {
