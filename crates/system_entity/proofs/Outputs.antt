@@ -1,8 +1,8 @@
 -- What is given out for several actions, one after another.
-use Rattle.std.proofs.Common.{◌≡◌, ◌∙◌, refl, sym, ap, subst, ℕ, zero, suc, ◌<◌, List, [], ◌∷◌, ◌++◌, length, take, get_or, arith, None}
+use Rattle.std.proofs.Common.{◌≡◌, ◌∙◌, refl, sym, ap, subst, ℕ, zero, suc, ◌<◌, List, [], ◌∷◌, ◌++◌, length, take, drop, set, get_or, ◌+◌, arith, None}
 use Rattle.std.specs.List.{AllByRecursion, flat_map}
 use Rattle.std.proofs.lemmas.Grind.{flat_map-append}
-use Rattle.std.proofs.lemmas.List.{append-nil}
+use Rattle.std.proofs.lemmas.List.{append-nil, drop-set-lt, drop_more, take_more}
 use Rattle.clnp_machine.specs.ClnpPlan.declared.output.Output.{Output}
 use Rattle.clnp_machine.specs.System as machine
 use Rattle.clnp_machine.specs.System.{SystemState}
@@ -57,6 +57,26 @@ does_at [] others i action within at h = absurd (omega arith)
 does_at (first ∷ actions) [] i action within at h = absurd h
 does_at (first ∷ actions) (other ∷ others) zero action within at h = (other, subst (λ (one : Action). Does one other) (sym at) h.0)
 does_at (first ∷ actions) (other ∷ others) (suc i) action within at h = does_at actions others i action (omega arith) at h.1
+
+-- the action at a place of a list that is left as it was from there on, and the list when another stands at that place
+pub record NextOf (actions list : List Action) (i : ℕ) (action : Action) : Type 0 where
+  pub is : action ≡ get_or actions i action
+  pub more : take (i + 1) actions ≡ take i actions ++ action ∷ []
+  pub left : (other : Action) → drop (i + 1) (set list i other) ≡ drop (i + 1) actions
+
+pub next_of : (actions list : List Action) (i : ℕ) (fallback : Action) → i < length actions → length list ≡ length actions
+    → drop i list ≡ drop i actions → NextOf actions list i (get_or list i fallback)
+next_of actions list i fallback within long left =
+    let action = get_or list i fallback in
+    let in_list : i < length list = omega arith in
+    let here : drop i list ≡ action ∷ drop (i + 1) list = drop_more list i fallback in_list in
+    let there = drop_more actions i action within in
+    let same : action ≡ get_or actions i action = cc in
+    record {
+      is = same;
+      more = take_more actions i action within ∙ ap (λ (one : Action). take i actions ++ one ∷ []) (sym same);
+      left = λ other. drop-set-lt (i + 1) list i other (omega arith) ∙ cc;
+    }
 
 all_last : (moment : ℕ) (front : List locally.Action) (last : locally.Action) → AllByRecursion (IsFresh moment) (front ++ last ∷ [])
     → AllByRecursion (IsFresh moment) front × IsFresh moment last

@@ -45,6 +45,7 @@ use clnp_machine::way::{Hop, Way};
 use esis_entity::send_redirect;
 use local_entity::{Action, give_pieces, send_unit};
 use std::alloc::Global;
+use std::mem::replace;
 
 impl SystemEntity {
     /// A moment has come.
@@ -336,7 +337,7 @@ impl SystemEntity {
     fn give_out(
         &self,
         alloc: Global,
-        actions: Vec<Action>,
+        mut actions: Vec<Action>,
         out: &mut Vec<Output>,
     ) -> Result<(), NoMemory>
         requires { (others : List locally.Action) × DoAll actions.items others }
@@ -347,7 +348,7 @@ impl SystemEntity {
         ensures front { StaysInFront out.old.items out.new.items }
     {
         let before = out.len();
-        for action in actions {
+        for action in actions.iter_mut() {
             if let Err(refused) = self.give(alloc, action, out) {
                 out.truncate(before);
                 return Err(refused);
@@ -356,19 +357,24 @@ impl SystemEntity {
         Ok(())
     }
 
-    /// Gives out one thing that was done.
-    fn give(&self, alloc: Global, action: Action, out: &mut Vec<Output>) -> Result<(), NoMemory>
-        requires { (other : locally.Action) × Does action other }
+    /// Gives out one thing that was done. It isn't moved for this: a unit is read where it is, and a note is taken from it.
+    fn give(
+        &self,
+        alloc: Global,
+        action: &mut Action,
+        out: &mut Vec<Output>,
+    ) -> Result<(), NoMemory>
+        requires { (other : locally.Action) × Does action.old other }
         ensures given { OnOk result ((s : SystemState) (before : ℕ) (other : locally.Action) → PartsStandSince before self.now s
-            → Does action other → IsFresh s.moment other
+            → Does action.old other → IsFresh s.moment other
             → Appends s.moment None out.old.items out.new.items (outputs_of s other)) }
         ensures front { StaysInFront out.old.items out.new.items }
     {
         match action {
-            Action::Note(note) => give_note(note, out),
+            Action::Note(note) => give_note(replace(note, Note::Alien), out),
             Action::Send(made) => {
                 let hop = self.unit_hop(&made.to);
-                send_unit(alloc, &made, hop, self.ports(), out)
+                send_unit(alloc, made, hop, self.ports(), out)
             }
         }
     }

@@ -32,6 +32,6 @@ pub returns-in-Send-clause-given : goal.returns-in-Send-clause-given
 returns-in-Send-clause-given c =
     on_ok_weaker c.send_unit.result
     (λ given s before other h does fresh.
-    unit_given s c.args.out.now.items c.send_unit.new.out.items c.args.action c.in-Send.made c.unit_hop-hop.result c.in-Send.is
+    unit_given s c.args.out.now.items c.send_unit.new.out.items c.args.action.now c.in-Send.made c.unit_hop-hop.result c.in-Send.is
     (λ u to. c.unit_hop-hop.ensures s before u h to) (λ u does_it first. given s u (c.ports.ensures.ports ∙ h.ports) does_it first) other does fresh)
     c.send_unit.ensures.sent
