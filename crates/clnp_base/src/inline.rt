@@ -4,6 +4,7 @@ ghost use Rattle.std.specs.Fn.{FnOnceReturnsAtMut, FnOnceTakesAtMut};
 ghost use Rattle.std.specs.Cmp.{partial_equiv_from_equiv};
 ghost use Rattle.std.specs.Cmp.Lexicographic.{nat_list_eq_equiv, pointwise};
 
+use crate::copying::copy_over;
 use std::marker::Model;
 
 /// Up to `MOST` octets in order, at most 255, which contracts see as their list. The cells past them are 0, so that one
@@ -127,7 +128,7 @@ fn lay(cells: &mut [u8], at: usize, piece: &[u8])
     requires { at + length piece.now ≤ length cells.old }
     ensures { cells.new ≡ take at cells.old ++ (piece.now ++ drop (at + length piece.now) cells.old) }
 {
-    cells[at..at + piece.len()].copy_from_slice(piece);
+    copy_over(piece, &mut cells[at..at + piece.len()]);
 }
 
 /// Changes the octets as the call of `change` does.

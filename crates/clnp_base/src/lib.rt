@@ -2,6 +2,7 @@
 #![tactic(auto)]
 
 mod clock;
+mod copying;
 mod digits;
 mod inline;
 mod memory;
@@ -12,6 +13,7 @@ mod streams;
 mod text;
 
 pub use clock::{Clock, HalfSeconds, MemClock};
+pub use copying::copy_over;
 pub use digits::DigitValues;
 pub use inline::InlineOctets;
 pub use memory::{MemSink, MemSource};

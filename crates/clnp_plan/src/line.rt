@@ -12,7 +12,7 @@ ghost use Rattle.pdu_header.specs.Nsap.Text.{hex_text};
 use crate::digits::lay_digits;
 use itoa::Buffer;
 use pdu_header::Kind;
-use pdu_header::base::{NoMemory, push};
+use pdu_header::base::{NoMemory, copy_over, push};
 use pdu_header::nsaps::{Address, Prefix, Target};
 
 /// The most decimal digits of a number.
@@ -236,9 +236,21 @@ fn lay_number(label: &[u8], number: u64, at: usize, place: &mut [u8]) -> usize
     lay_decimal(number, at, place)
 }
 
-/// Lays a number in decimal digits.
-#[inline(never)]
+/// Lays a number in decimal digits; most have one.
+#[inline(always)]
 fn lay_decimal(number: u64, at: usize, place: &mut [u8]) -> usize
+    requires { at + length (decimal number) ≤ length place.old }
+    ensures { Lays at (decimal number) place.old result place.new }
+{
+    if number < 10 {
+        return lay_octet(b'0' + number as u8, at, place);
+    }
+    lay_number_of_digits(number, at, place)
+}
+
+/// The same, of however many digits.
+#[inline(never)]
+fn lay_number_of_digits(number: u64, at: usize, place: &mut [u8]) -> usize
     requires { at + length (decimal number) ≤ length place.old }
     ensures { Lays at (decimal number) place.old result place.new }
 {
@@ -263,7 +275,7 @@ fn lay(text: &[u8], at: usize, place: &mut [u8]) -> usize
     ensures { Lays at text.now place.old result place.new }
 {
     let end = at + text.len();
-    place[at..end].copy_from_slice(text);
+    copy_over(text, &mut place[at..end]);
     end
 }
 

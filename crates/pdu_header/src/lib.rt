@@ -26,8 +26,8 @@ pub use report::reportable;
 /// Octets and text.
 pub mod base {
     pub use nsap::base::{
-        DigitValues, HexFault, InlineOctets, NoMemory, Octets, decimal, is_skipped, lines,
-        next_line, next_word, push, push_decimal, push_hex, push_number, same, words,
+        DigitValues, HexFault, InlineOctets, NoMemory, Octets, copy_over, decimal, is_skipped,
+        lines, next_line, next_word, push, push_decimal, push_hex, push_number, same, words,
     };
 }
 
