@@ -241,6 +241,10 @@ fn has_gap_on(pages: &[Page], from: u16, to: u16) -> bool
     requires { AreInOrder (on_pages pages.now) }
     ensures { result ≡ list_any (is_gap from to) (on_pages pages.now) }
 {
+    // Most units have one page.
+    if pages.len() < 2 {
+        return have_gap(pages, from, to);
+    }
     let last = begun_before(pages, to);
     let first = ended_by(&pages[..last], from);
     have_gap(&pages[first..last], from, to)
@@ -335,6 +339,9 @@ fn page_of(pages: &[Page], place: u16) -> Option<usize>
     requires { AreInOrder (on_pages pages.now) }
     ensures { result ≡ position_from (ends_behind place) 0 pages.now }
 {
+    if pages.len() < 2 {
+        return first_behind(pages, place);
+    }
     let first = ended_by(pages, place);
     match first_behind(&pages[first..], place) {
         Some(at) => Some(first + at),
@@ -390,6 +397,10 @@ fn mark_on(pages: &mut [Page], from: u16, to: u16, by: u16)
     requires { AreInOrder (on_pages pages.old) }
     ensures { pages.new ≡ map (map (marked from to by)) pages.old }
 {
+    if pages.len() < 2 {
+        mark_pages(pages, from, to, by);
+        return;
+    }
     let last = begun_before(pages, to);
     let first = ended_by(&pages[..last], from);
     mark_pages(&mut pages[first..last], from, to, by);

@@ -20,17 +20,17 @@ pub overflow_add-result : goal.overflow_add-result
 overflow_add-result c =
     let first = c.ended_by-first.result in
     let pages = c.args.pages.now in
-    let found = others c.args.place first pages c.first_behind.result c.first_behind.ensures ∙ c.in-Some.is in
+    let found = others c.args.place first pages c.first_behind-2.result c.first_behind-2.ensures ∙ c.in-Some.is in
     omega (arith, (is_first (ends_behind c.args.place) c.in-Some.at (drop first pages) found).within, length-drop first pages, c.ended_by-first.ensures.within)
 
 pub returns-in-Some : goal.returns-in-Some
 returns-in-Some c =
     let first = c.ended_by-first.result in
-    let found = others c.args.place first c.args.pages.now c.first_behind.result c.first_behind.ensures ∙ c.in-Some.is in
+    let found = others c.args.place first c.args.pages.now c.first_behind-2.result c.first_behind-2.ensures ∙ c.in-Some.is in
     sym (page_behind c.args.place first c.args.pages.now c.ended_by-first.ensures.ended ∙ ap (option_map (λ i. first + i)) found)
 
 pub returns-in-None : goal.returns-in-None
 returns-in-None c =
     let first = c.ended_by-first.result in
-    let found = others c.args.place first c.args.pages.now c.first_behind.result c.first_behind.ensures ∙ c.in-None.is in
+    let found = others c.args.place first c.args.pages.now c.first_behind-2.result c.first_behind-2.ensures ∙ c.in-None.is in
     sym (page_behind c.args.place first c.args.pages.now c.ended_by-first.ensures.ended ∙ ap (option_map (λ i. first + i)) found)
