@@ -32,16 +32,16 @@ pub(crate) struct Onward {
 #[tactic(auto, using(crate::proofs::Going::ends))]
 pub(crate) fn by_port(
     passing: &Passing<'_>,
-    head: Header,
+    head: &mut Header,
     way: Way,
     port: &PortConfig,
 ) -> Result<Onward, Reason>
     requires port { IsPort port.now }
     requires pdu { (v : PduValue) × HasValue passing.now v }
-    requires head { (v : PduValue) × SpellsHeader v head × (length v.body ≡ passing.now.len) }
+    requires head { (v : PduValue) × SpellsHeader v head.old × (length v.body ≡ passing.now.len) }
     ensures goes { (s : SystemState) (came : Neighbour) (p : Packet) (following : List ℕ) → IsCarriable p
         → HasValue passing.now (value_of p)
-        → SpellsHeader (with_options (options_behind s p.options) (value_of p)) head
+        → SpellsHeader (with_options (options_behind s p.options) (value_of p)) head.old
         → ComesTo result s came p following
         (goes_on_by s came p following (options_behind s p.options) way (Some port.now)) }
     ensures each { IfOk result (λ onward. AllByRecursion (IsCutOf passing.now.len) onward.cuts) }
@@ -51,9 +51,8 @@ pub(crate) fn by_port(
     };
     laws::what_goes_on_has_its_value();
     let towards_title = head.route_target().is_some();
-    let mut head = head;
     head.set_life(life);
-    match Cuts::new(head, passing.len, port.mtu) {
+    match Cuts::new(*head, passing.len, port.mtu) {
         Ok(cuts) => Ok(Onward {
             way,
             towards_title,

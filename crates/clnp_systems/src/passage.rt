@@ -55,16 +55,14 @@ pub(crate) fn no_way(head: &Header) -> Reason
 }
 
 /// The header of a PDU behind the router of a title, which may be congested.
-pub(crate) fn behind(head: Header, title: &Address, congested: bool) -> Header
-    requires { IsHeader head }
+pub(crate) fn behind(head: &mut Header, title: &Address, congested: bool)
+    requires { IsHeader head.old }
     ensures { (s : SystemState) (v : PduValue) → title_of s ≡ title.now → s.congested ≡ congested
-        → SpellsHeader v head
-        → SpellsHeader (with_options (options_behind s v.options) v) result }
+        → SpellsHeader v head.old
+        → SpellsHeader (with_options (options_behind s v.options) v) head.new }
 {
-    let mut head = head;
-    pass_own(&mut head, title);
-    tell(&mut head, title, congested);
-    head
+    pass_own(head, title);
+    tell(head, title, congested);
 }
 
 /// Moves the pointer of a header's source route past a title while it stands there.

@@ -236,24 +236,19 @@ impl Router {
         ensures congested { self.new.entity.congested ≡ self.old.entity.congested }
         ensures config { self.new.entity.local.configuration ≡ self.old.entity.local.configuration }
     {
-        match self.onward(passing) {
-            Ok(
-                Onward {
-                    way,
-                    towards_title,
-                    cuts,
-                },
-            ) => {
+        // By reference: how it goes on holds a header, which isn't copied.
+        match &mut self.onward(passing) {
+            Ok(onward) => {
                 let from = passing.head.len();
                 let before = out.len();
-                self.entity
-                    .pass_on(alloc, frame, from, passing.len, cuts, way.hop(), out)?;
+                let hop = onward.way.hop();
+                self.entity.pass_on(alloc, frame, from, passing.len, &mut onward.cuts, hop, out)?;
                 if let Err(refused) = self.redirect(
                     alloc,
                     came,
                     passing,
-                    towards_title,
-                    &way,
+                    onward.towards_title,
+                    &onward.way,
                     out,
                 ) {
                     out.truncate(before);
@@ -274,31 +269,31 @@ impl Router {
             → ComesTo result s came p following (goes_on s came p following) }
         ensures each { IfOk result (λ onward. AllByRecursion (IsCutOf passing.now.len) onward.cuts) }
     {
-        let head = Header::of(passing.head);
+        let mut head = Header::of(passing.head);
         let title = self.title();
         if is_off_route(&head, title) {
             return Err(Reason::PathNotAcceptable);
         }
-        let head = behind(head, title, self.entity.is_congested());
-        self.onward_with(passing, head)
+        behind(&mut head, title, self.entity.is_congested());
+        self.onward_with(passing, &mut head)
     }
 
     /// How a PDU goes on with a header that was changed, or for which reason it is discarded.
-    fn onward_with(&self, passing: &Passing<'_>, head: Header) -> Result<Onward, Reason>
+    fn onward_with(&self, passing: &Passing<'_>, head: &mut Header) -> Result<Onward, Reason>
         requires pdu { (v : PduValue) × HasValue passing.now v }
-        requires head { (v : PduValue) × SpellsHeader v head × (length v.body ≡ passing.now.len) }
+        requires head { (v : PduValue) × SpellsHeader v head.old × (length v.body ≡ passing.now.len) }
         ensures goes { (s : SystemState) (came : Neighbour) (p : Packet) (following : List ℕ) → Stands self.now s
             → IsCarriable p
             → HasValue passing.now (value_of p)
-            → SpellsHeader (with_options (options_behind s p.options) (value_of p)) head
+            → SpellsHeader (with_options (options_behind s p.options) (value_of p)) head.old
             → ComesTo result s came p following (goes_on_with s came p following (options_behind s p.options)) }
         ensures each { IfOk result (λ onward. AllByRecursion (IsCutOf passing.now.len) onward.cuts) }
     {
-        let to = towards(&head, &passing.to);
+        let to = towards(head, &passing.to);
         let Some(way) = self.entity.way(&to) else {
-            return Err(no_way(&head));
+            return Err(no_way(head));
         };
-        if is_barred(&head, &way, &to) {
+        if is_barred(head, &way, &to) {
             return Err(Reason::PathNotAcceptable);
         }
         let Some(port) = self.entity.ports().get(usize::from(way.neighbour.port)) else {

@@ -71,26 +71,27 @@ fn send_on(
 {
     let octets = made.body.bytes().len();
     match Cuts::new(made.head, octets, port.mtu) {
-        Ok(cuts) => give_pieces(alloc, cuts, hop, &made.body, false, out),
+        Ok(mut cuts) => give_pieces(alloc, &mut cuts, hop, &made.body, false, out),
         Err(NotPermitted { .. }) => note(Reason::SegmentationNotPermitted, out),
     }
 }
 
-/// Gives out the pieces of a PDU with these data, which is forwarded or was made here, each as a frame of its own.
+/// Gives out the pieces of a PDU with these data, which is forwarded or was made here, each as a frame of its own. They are
+/// taken from `cuts`, which is lent and not handed over, since it holds a header of up to 254 octets.
 ///
 /// # Errors
 ///
 /// `NoMemory`: `out` is then as it was.
 pub fn give_pieces(
     alloc: Global,
-    cuts: Cuts,
+    cuts: &mut Cuts,
     hop: Hop,
     body: &View,
     forwarded: bool,
     out: &mut Vec<Output>,
 ) -> Result<(), NoMemory>
-    requires { AllByRecursion (IsCutOf body.now.len) cuts }
-    ensures given { OnOk result (out.new.items ≡ out.old.items ++ map (transmission forwarded hop body.now) cuts) }
+    requires { AllByRecursion (IsCutOf body.now.len) cuts.old }
+    ensures given { OnOk result (out.new.items ≡ out.old.items ++ map (transmission forwarded hop body.now) cuts.old) }
     ensures none { OnErr result (out.new.items ≡ out.old.items) }
     ensures front { take (length out.old.items) out.new.items ≡ out.old.items }
 {
@@ -105,14 +106,14 @@ pub fn give_pieces(
 /// Appends the pieces of a PDU with these data; where memory is refused some of them stay.
 fn push_pieces(
     alloc: Global,
-    cuts: Cuts,
+    cuts: &mut Cuts,
     hop: &Hop,
     body: &View,
     forwarded: bool,
     out: &mut Vec<Output>,
 ) -> Result<(), NoMemory>
-    requires { AllByRecursion (IsCutOf body.now.len) cuts }
-    ensures given { OnOk result (out.new.items ≡ out.old.items ++ map (transmission forwarded hop.now body.now) cuts) }
+    requires { AllByRecursion (IsCutOf body.now.len) cuts.old }
+    ensures given { OnOk result (out.new.items ≡ out.old.items ++ map (transmission forwarded hop.now body.now) cuts.old) }
     ensures front { OnErr result (take (length out.old.items) out.new.items ≡ out.old.items) }
 {
     for cut in cuts {

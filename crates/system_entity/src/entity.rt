@@ -245,7 +245,8 @@ impl SystemEntity {
         Ok(())
     }
 
-    /// The PDU whose data are `len` octets of a frame that came, from place `from` on, goes on in pieces to where it goes next.
+    /// The PDU whose data are `len` octets of a frame that came, from place `from` on, goes on in pieces, which are taken from
+    /// `cuts`, to where it goes next.
     ///
     /// # Errors
     ///
@@ -256,13 +257,13 @@ impl SystemEntity {
         frame: &Frame,
         from: usize,
         len: usize,
-        cuts: Cuts,
+        cuts: &mut Cuts,
         hop: Hop,
         out: &mut Vec<Output>,
     ) -> Result<(), NoMemory>
         requires within { from + len ≤ length frame.now }
-        requires cuts { AllByRecursion (IsCutOf len) cuts }
-        ensures given { OnOk result (out.new.items ≡ out.old.items ++ map (transmission true hop (part from len (whole frame.now))) cuts) }
+        requires cuts { AllByRecursion (IsCutOf len) cuts.old }
+        ensures given { OnOk result (out.new.items ≡ out.old.items ++ map (transmission true hop (part from len (whole frame.now))) cuts.old) }
         ensures same { OnOk result (self.new ≡ self.old) }
         ensures none { OnErr result (out.new.items ≡ out.old.items) }
         ensures spent { OnErr result (self.new.spent ≡ true) }

@@ -109,6 +109,11 @@ impl SystemEntity {
     {
         laws::a_frame_carries_one_packet();
         laws::no_frame_is_of_both_protocols();
+        // A hello isn't decoded as a CLNP PDU first, for which room would be filled that the decoder writes to.
+        if !begins_as_clnp(frame) {
+            self.other_comes(alloc, neighbour, frame, out)?;
+            return Ok(Arrival::Done);
+        }
         match decode(frame.bytes()) {
             Ok(pdu) => self.pdu_comes(alloc, &pdu, neighbour, group, frame, out),
             Err(Refusal::Broken(broken)) => {
@@ -438,13 +443,13 @@ pub(super) fn pass_pieces(
     frame: &Frame,
     from: usize,
     len: usize,
-    cuts: Cuts,
+    cuts: &mut Cuts,
     hop: Hop,
     out: &mut Vec<Output>,
 ) -> Result<(), NoMemory>
     requires within { from + len ≤ length frame.now }
-    requires cuts { AllByRecursion (IsCutOf len) cuts }
-    ensures given { OnOk result (out.new.items ≡ out.old.items ++ map (transmission true hop (part from len (whole frame.now))) cuts) }
+    requires cuts { AllByRecursion (IsCutOf len) cuts.old }
+    ensures given { OnOk result (out.new.items ≡ out.old.items ++ map (transmission true hop (part from len (whole frame.now))) cuts.old) }
     ensures none { OnErr result (out.new.items ≡ out.old.items) }
 {
     let body = frame.view()?.narrow(from, len);
@@ -476,6 +481,13 @@ pub(super) fn tell_way(
         title,
         out,
     )
+}
+
+/// Whether a frame begins with the identifier of CLNP (ISO/IEC 8473, section 7.2.2).
+fn begins_as_clnp(frame: &Frame) -> bool
+    ensures { result ≡ (octet frame.now 1 == 0x81) }
+{
+    matches!(frame.bytes(), [0x81, ..])
 }
 
 /// What is noted of a frame that no protocol accepts: the rule of ES-IS PDUs that it breaks, or that it is alien.

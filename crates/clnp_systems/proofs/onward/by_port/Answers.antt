@@ -5,7 +5,7 @@ use Rattle.clnp_systems.proofs.onward.by_port.Goals as goal
 
 pub returns-in-Ok-clause-goes : goal.returns-in-Ok-clause-goes
 returns-in-Ok-clause-goes c = λ s came p following carriable has edited.
-    goes s came p following c.args.way c.args.port.now c.args.passing.now c.life_left.result c.in-Some.life c.args.head c.set_life.new.self
+    goes s came p following c.args.way c.args.port.now c.args.passing.now c.life_left.result c.in-Some.life c.args.head.now c.set_life.new.self
     c.route_target.result c.new.result c.requires.port carriable has c.life_left.ensures c.in-Some.is edited c.route_target.ensures
     c.set_life.ensures.spells c.new.ensures.cut
     (c.what_goes_on_has_its_value.ensures.value s p (loss_at c.args.port.now) carriable)
@@ -13,7 +13,7 @@ returns-in-Ok-clause-goes c = λ s came p following carriable has edited.
 
 pub returns-in-Err-clause-goes : goal.returns-in-Err-clause-goes
 returns-in-Err-clause-goes c = λ s came p following carriable has edited.
-    stays s came p following c.args.way c.args.port.now c.args.passing.now c.life_left.result c.in-Some.life c.args.head c.set_life.new.self
+    stays s came p following c.args.way c.args.port.now c.args.passing.now c.life_left.result c.in-Some.life c.args.head.now c.set_life.new.self
     c.route_target.result c.new.result c.requires.port carriable has c.life_left.ensures c.in-Some.is edited c.route_target.ensures
     c.set_life.ensures.spells c.new.ensures.cut
     (c.what_goes_on_has_its_value.ensures.value s p (loss_at c.args.port.now) carriable)

@@ -12,7 +12,11 @@ use Rattle.clnp_machine.specs.Unit.{value_of}
 use Rattle.system_entity.specs.LocalEntity.Sending.{transmission}
 use Rattle.system_entity.specs.Stands as entity
 use Rattle.system_entity.specs.State.{SystemEntityState}
+use Rattle.clnp_systems.specs.Router.Onward.{ComesTo}
 use Rattle.clnp_systems.specs.Router.State.{RouterState}
+use Rattle.clnp_systems.specs.declared.onward.Onward.{Onward}
+use Rattle.clnp_machine.specs.ClnpOptions.declared.reasons.Reason.{Reason}
+use Rattle.std.specs.Prelude.{Result}
 use Rattle.clnp_systems.proofs.Going.{data_in, appends_whatever_came, appends_both}
 use Rattle.clnp_systems.proofs.RouterPassing.{onward}
 use Rattle.clnp_systems.proofs.router.Router.forward.Goals as goal
@@ -21,7 +25,7 @@ pub returns-in-Err-clause-stands : goal.returns-in-Err-clause-stands
 returns-in-Err-clause-stands c =
     on_ok_weaker c.discard.result (λ dropped s p following h carriable has frame.
     let stands = subst (λ (router : RouterState). entity.Stands router.entity s) (sym c.self.view_is) h in
-    let is = c.in-Err.ensures.goes s c.args.came.now p following h carriable has in
+    let is = subst (λ (r : Result Onward Reason). ComesTo r s c.args.came.now p following (onward s c.args.came.now p following)) c.in-Err.is (c.onward.ensures.goes s c.args.came.now p following h carriable has) in
     subst (λ (t : SystemState). entity.Stands c.discard.new.self t)
     (ap (λ (reason : ℕ). (discard s (Labelled p following) reason 0).after) c.code.ensures ∙ sym (ap (λ (e : Effect). e.after) is))
     (dropped s (Labelled p following) stands carriable (sym frame)))
@@ -31,7 +35,7 @@ pub returns-in-Err-clause-outputs : goal.returns-in-Err-clause-outputs
 returns-in-Err-clause-outputs c =
     on_ok_weaker c.discard.result (λ dropped s p following h carriable has frame.
     let stands = subst (λ (router : RouterState). entity.Stands router.entity s) (sym c.self.view_is) h in
-    let is = c.in-Err.ensures.goes s c.args.came.now p following h carriable has in
+    let is = subst (λ (r : Result Onward Reason). ComesTo r s c.args.came.now p following (onward s c.args.came.now p following)) c.in-Err.is (c.onward.ensures.goes s c.args.came.now p following h carriable has) in
     appends_whatever_came s.moment (Labelled p following) c.args.out.now.items c.discard.new.out.items (onward s c.args.came.now p following).outputs
     (subst (λ (others : List Output). Appends s.moment None c.args.out.now.items c.discard.new.out.items others)
     (ap (λ (reason : ℕ). (effect_of (discard s (Labelled p following) reason 0)).outputs) c.code.ensures ∙ sym (ap (λ (e : Effect). e.outputs) is))
@@ -41,7 +45,7 @@ returns-in-Err-clause-outputs c =
 pub returns-in_default-clause-stands : goal.returns-in_default-clause-stands
 returns-in_default-clause-stands c = λ s p following h carriable has frame.
     let stands = subst (λ (router : RouterState). entity.Stands router.entity s) (sym c.self.view_is) h in
-    let goes = c.in-Ok.ensures.goes s c.args.came.now p following h carriable has in
+    let goes = subst (λ (r : Result Onward Reason). ComesTo r s c.args.came.now p following (onward s c.args.came.now p following)) c.in-Ok.is (c.onward.ensures.goes s c.args.came.now p following h carriable has) in
     subst (λ (t : SystemState). entity.Stands c.redirect.new.self.entity t) (sym goes.after)
     (subst (λ (router : RouterState). entity.Stands router.entity s) (sym c.in_default.ensures.same)
     (subst (λ (e : SystemEntityState). entity.Stands e s) (sym c.in_ok-pass_on-in-Ok.ensures.same) stands))
@@ -49,8 +53,8 @@ returns-in_default-clause-stands c = λ s p following h carriable has frame.
 pub returns-in_default-clause-outputs : goal.returns-in_default-clause-outputs
 returns-in_default-clause-outputs c = λ s p following h carriable has frame.
     let stands = subst (λ (router : RouterState). entity.Stands router.entity s) (sym c.self.view_is) h in
-    let goes = c.in-Ok.ensures.goes s c.args.came.now p following h carriable has in
-    let way = c.in-Ok.field-0.way in
+    let goes = subst (λ (r : Result Onward Reason). ComesTo r s c.args.came.now p following (onward s c.args.came.now p following)) c.in-Ok.is (c.onward.ensures.goes s c.args.came.now p following h carriable has) in
+    let way = c.in-Ok.onward.way in
     let head = c.args.passing.now.head.now in
     let len = c.args.passing.now.len in
     let body : Extent = part (length head) len (whole c.args.frame.now) in
@@ -58,9 +62,9 @@ returns-in_default-clause-outputs c = λ s p following h carriable has frame.
     data_in c.args.frame.now head following (value_of p) len frame has.header.octets_are has.len in
     let first : Appends s.moment (Some (Labelled p following)) c.args.out.now.items c.pass_on.new.out.items goes.pieces =
     record {
-      outputs = map (transmission true (hop_by way) body) c.in-Ok.field-0.cuts;
-      appended = subst (λ (to : Hop). c.pass_on.new.out.items ≡ c.args.out.now.items ++ map (transmission true to body) c.in-Ok.field-0.cuts)
-          c.hop.ensures
+      outputs = map (transmission true (hop_by way) body) c.in-Ok.onward.cuts;
+      appended = subst (λ (to : Hop). c.pass_on.new.out.items ≡ c.args.out.now.items ++ map (transmission true to body) c.in-Ok.onward.cuts)
+          c.hop-hop.ensures
           c.in_ok-pass_on-in-Ok.ensures.given;
       give_all = goes.given body shown (ap length shown ∙ has.len);
     } in

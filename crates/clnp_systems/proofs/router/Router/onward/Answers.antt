@@ -25,8 +25,8 @@ returns-then-is_off_route-clause-goes c = λ s came p following h carriable has.
 
 pub onward_with-requires-clause-head : goal.onward_with-requires-clause-head
 onward_with-requires-clause-head c =
-    is_header c.self.inside.entity.local.configuration c.title-title.result.now c.is_congested.result c.of-head.result c.behind-head.result
-    c.args.passing.now.len c.requires.0 (made c.requires.0 c.of-head.result c.args.passing.now.head.now c.of-head.ensures c.requires.1.header) c.requires.1.len c.behind-head.ensures
+    is_header c.self.inside.entity.local.configuration c.title-title.result.now c.is_congested.result c.of-head.result c.behind.new.head
+    c.args.passing.now.len c.requires.0 (made c.requires.0 c.of-head.result c.args.passing.now.head.now c.of-head.ensures c.requires.1.header) c.requires.1.len c.behind.ensures
 
 pub returns-clause-goes : goal.returns-clause-goes
 returns-clause-goes c = λ s came p following h carriable has.
@@ -36,4 +36,4 @@ returns-clause-goes c = λ s came p following h carriable has.
     subst (λ (effect : Effect). ComesTo c.onward_with.result s came p following effect)
     (on_route s came p following c.is_off_route.result c.if-is_off_route.false (c.is_off_route.ensures s (value_of p) title spells))
     (c.onward_with.ensures.goes s came p following h carriable has
-    (c.behind-head.ensures s (value_of p) title (sym (c.is_congested.ensures s s.moment stands.parts)) spells))
+    (c.behind.ensures s (value_of p) title (sym (c.is_congested.ensures s s.moment stands.parts)) spells))
