@@ -764,4 +764,6 @@ fn main() {
     let Counts { got, reports, echoed, drops, expired } = network.counts;
     let (copies, clock) = (network.copies.len(), network.clock);
     println!("storm {seed} events {events} copies {copies} got {got} reports {reports} echoed {echoed} drops {drops} expired {expired} end {clock}");
+    // as clnp leaves its own to the end of the process
+    std::mem::forget(network);
 }
