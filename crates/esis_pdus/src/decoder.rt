@@ -180,54 +180,64 @@ fn read_parts(head: &[u8], kind: Kind) -> Result<Parts<'_>, EsisRefusal>
 {
     let part = &head[FIXED_PART..];
     match kind {
-        Kind::EndSystemHello => read_addresses(part).ok_or(broken(8, 10)),
-        Kind::IntermediateSystemHello => read_title(part).ok_or(broken(9, 10)),
-        Kind::Redirect => read_redirection(part).ok_or(broken(10, 10)),
+        Kind::EndSystemHello => read_addresses(part),
+        Kind::IntermediateSystemHello => read_title(part),
+        Kind::Redirect => read_redirection(part),
     }
 }
 
-/// The addresses of an end system hello, and what follows them (section 7.6).
-fn read_addresses(part: &[u8]) -> Option<Parts<'_>>
-    ensures judged { MatchOption result (is_address_list part.now ≡ false) (λ _. is_address_list part.now ≡ true) }
-    ensures body { IfSome result (λ parts. parts.body ≡ EsisBody.Esh (address_list part.now)) }
-    ensures options { IfSome result (λ parts. parts.options.now ≡ behind_address_list part.now) }
+/// The addresses of an end system hello, and what follows them (section 7.6). Refuses by E8.
+#[inline(never)]
+fn read_addresses(part: &[u8]) -> Result<Parts<'_>, EsisRefusal>
+    ensures judged { MatchResult result (λ _. is_address_list part.now ≡ true)
+        (λ refusal. (is_address_list part.now ≡ false) × (refusal ≡ EsisRefusal.Broken 8 10)) }
+    ensures body { IfOk result (λ parts. parts.body ≡ EsisBody.Esh (address_list part.now)) }
+    ensures options { IfOk result (λ parts. parts.options.now ≡ behind_address_list part.now) }
 {
-    let (addresses, options) = AddressList::read(part)?;
-    Some(Parts {
+    let Some((addresses, options)) = AddressList::read(part) else {
+        return Err(broken(8, 10));
+    };
+    Ok(Parts {
         body: EsisBody::Esh { addresses },
         options,
     })
 }
 
-/// The title of an intermediate system hello, and what follows it (section 7.7).
-fn read_title(part: &[u8]) -> Option<Parts<'_>>
-    ensures judged { MatchOption result (is_field 1 part.now ≡ false) (λ _. is_field 1 part.now ≡ true) }
-    ensures body { IfSome result (λ parts. parts.body ≡ EsisBody.Ish (field_octets part.now)) }
-    ensures options { IfSome result (λ parts. parts.options.now ≡ behind part.now) }
+/// The title of an intermediate system hello, and what follows it (section 7.7). Refuses by E9.
+#[inline(never)]
+fn read_title(part: &[u8]) -> Result<Parts<'_>, EsisRefusal>
+    ensures judged { MatchResult result (λ _. is_field 1 part.now ≡ true)
+        (λ refusal. (is_field 1 part.now ≡ false) × (refusal ≡ EsisRefusal.Broken 9 10)) }
+    ensures body { IfOk result (λ parts. parts.body ≡ EsisBody.Ish (field_octets part.now)) }
+    ensures options { IfOk result (λ parts. parts.options.now ≡ behind part.now) }
 {
     let Some((title, options)) = address_field(part) else {
-        return None;
+        return Err(broken(9, 10));
     };
-    Some(Parts {
+    Ok(Parts {
         body: EsisBody::Ish { title },
         options,
     })
 }
 
-/// The addresses of a redirect, and what follows them (section 7.8).
-fn read_redirection(part: &[u8]) -> Option<Parts<'_>>
-    ensures judged { MatchOption result (is_redirection part.now ≡ false) (λ _. is_redirection part.now ≡ true) }
-    ensures body { IfSome result (λ parts. parts.body ≡ redirection part.now) }
-    ensures options { IfSome result (λ parts. parts.options.now ≡ behind (behind (behind part.now))) }
+/// The addresses of a redirect, and what follows them (section 7.8). Refuses by E10.
+#[inline(never)]
+fn read_redirection(part: &[u8]) -> Result<Parts<'_>, EsisRefusal>
+    ensures judged { MatchResult result (λ _. is_redirection part.now ≡ true)
+        (λ refusal. (is_redirection part.now ≡ false) × (refusal ≡ EsisRefusal.Broken 10 10)) }
+    ensures body { IfOk result (λ parts. parts.body ≡ redirection part.now) }
+    ensures options { IfOk result (λ parts. parts.options.now ≡ behind (behind (behind part.now))) }
 {
     let Some((to, others)) = address_field(part) else {
-        return None;
+        return Err(broken(10, 10));
     };
     let Some((via, others)) = snpa_field(others) else {
-        return None;
+        return Err(broken(10, 10));
     };
-    let (title, options) = field(others)?;
-    Some(Parts {
+    let Some((title, options)) = field(others) else {
+        return Err(broken(10, 10));
+    };
+    Ok(Parts {
         body: EsisBody::Rd {
             to,
             via,
