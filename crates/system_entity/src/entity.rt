@@ -47,7 +47,7 @@ mod changing;
 mod noting;
 mod steps;
 
-use steps::{give_note, has_content, pass_pieces, ports_of, routes_of, tell_way};
+use steps::{begins_as_clnp, give_note, has_content, pass_pieces, ports_of, routes_of, tell_way};
 
 /// What came of a frame.
 #[derive(Clone, Copy)]
@@ -198,6 +198,12 @@ impl SystemEntity {
         }
         has_content(frame);
         self.spent = true;
+        // A hello is told apart here: as a CLNP PDU it would be decoded in vain, and an answer filled that has room for one.
+        if !begins_as_clnp(frame) {
+            self.other_comes(alloc, neighbour, frame, out)?;
+            self.spent = false;
+            return Ok(Arrival::Done);
+        }
         match self.arrive(alloc, neighbour, group, frame, out) {
             Ok(arrival) => {
                 self.spent = false;

@@ -109,11 +109,6 @@ impl SystemEntity {
     {
         laws::a_frame_carries_one_packet();
         laws::no_frame_is_of_both_protocols();
-        // A hello isn't decoded as a CLNP PDU first, for which room would be filled that the decoder writes to.
-        if !begins_as_clnp(frame) {
-            self.other_comes(alloc, neighbour, frame, out)?;
-            return Ok(Arrival::Done);
-        }
         match decode(frame.bytes()) {
             Ok(pdu) => self.pdu_comes(alloc, &pdu, neighbour, group, frame, out),
             Err(Refusal::Broken(broken)) => {
@@ -232,7 +227,7 @@ impl SystemEntity {
 
     /// A frame comes that doesn't begin as a CLNP PDU: an ES-IS PDU is heard, and what breaks one of its rules or is of neither
     /// protocol is noted.
-    fn other_comes(
+    pub(super) fn other_comes(
         &mut self,
         alloc: Global,
         neighbour: Neighbour,
@@ -484,7 +479,7 @@ pub(super) fn tell_way(
 }
 
 /// Whether a frame begins with the identifier of CLNP (ISO/IEC 8473, section 7.2.2).
-fn begins_as_clnp(frame: &Frame) -> bool
+pub(super) fn begins_as_clnp(frame: &Frame) -> bool
     ensures { result ≡ (octet frame.now 1 == 0x81) }
 {
     matches!(frame.bytes(), [0x81, ..])

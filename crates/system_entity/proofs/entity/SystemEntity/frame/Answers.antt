@@ -3,6 +3,7 @@ use Rattle.std.proofs.Common.{refl, sym, subst, Bool, false, List}
 use Rattle.clnp_machine.specs.EsisTables.declared.fact.Neighbour.{Neighbour}
 use Rattle.clnp_machine.specs.ClnpPlan.declared.output.Output.{Output}
 use Rattle.clnp_machine.specs.Content.{Content}
+use Rattle.clnp_machine.specs.Step.{content_comes}
 use Rattle.clnp_machine.specs.System.{SystemState}
 use Rattle.system_entity.specs.Comes.{ComesOf, LeavesAsItWas}
 use Rattle.system_entity.specs.State.{SystemEntityState}
@@ -51,6 +52,39 @@ invariant_of-self-in-Ok c =
         stands = record {
           not_spent = refl;
           parts = while_spent _ false _ (subst (λ (e : SystemEntityState). PartsStand e some.0) (sym c.self-2.view_is) some.1);
+        };
+      };
+    }
+
+-- what isn't of CLNP was heard or noted
+pub returns-then-not-begins_as_clnp-clause-comes : goal.returns-then-not-begins_as_clnp-clause-comes
+returns-then-not-begins_as_clnp-clause-comes c = λ s content h carried frame.
+    let here = subst (λ (e : SystemEntityState). Stands e s) (sym c.self.view_is) h in
+    let after : SystemState = (content_comes s c.args.neighbour c.args.group content).after in
+    let parts = while_spent _ _ s here.parts in
+    record {
+      parts = while_spent _ false after
+          (subst (λ (e : SystemEntityState). PartsStand e after) (sym c.self-then-not-begins_as_clnp.view_is)
+          (c.in_ok-other_comes.ensures.stands s c.args.group content parts carried frame));
+      outputs = c.in_ok-other_comes.ensures.outputs s c.args.group content parts carried frame;
+    }
+
+pub invariant_of-self-then-not-begins_as_clnp : goal.invariant_of-self-then-not-begins_as_clnp
+invariant_of-self-then-not-begins_as_clnp c =
+    let old = c.self.invariant.some c.if-self.false in
+    let content = c.has_content.ensures in
+    let after : SystemState = (content_comes old.state c.args.neighbour c.args.group content.0).after in
+    let stands = c.in_ok-other_comes.ensures.stands old.state c.args.group content.0 (while_spent _ _ old.state old.stands.parts) content.1 content.2 in
+    record {
+      moment = c.self-then-not-begins_as_clnp.invariant.moment;
+      wide = c.self-then-not-begins_as_clnp.invariant.wide;
+      number = c.self-then-not-begins_as_clnp.invariant.number;
+      some = λ free. record {
+        state = after;
+        stands = record {
+          not_spent = refl;
+          parts = while_spent _ false after
+              (subst (λ (e : SystemEntityState). PartsStand e after) (sym c.self-then-not-begins_as_clnp.view_is) stands);
         };
       };
     }
