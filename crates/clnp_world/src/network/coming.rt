@@ -51,7 +51,7 @@ impl Network {
 
 /// Leaves no outputs. Mostly there are none, and then none are gone through.
 #[inline(always)]
-fn empty(outputs: &mut Vec<Output>)
+pub(super) fn empty(outputs: &mut Vec<Output>)
     ensures { outputs.new.items ≡ [] }
 {
     if !outputs.is_empty() {

@@ -9,7 +9,7 @@ ghost use Rattle.clnp_world.specs.Seen.{IsNextAddressee, IsPortFor, place_of};
 ghost use Rattle.clnp_machine.specs.Unit.{Maker};
 
 use super::Network;
-use super::coming::names_of_inputs;
+use super::coming::{empty, names_of_inputs};
 use crate::copy::{first_port, is_to_group};
 use crate::lines::{Line, LineSink};
 use clnp_machine::base::NoMemory;
@@ -162,18 +162,22 @@ impl Network {
         }
         names_of_inputs(None, None);
         self.write_receipt(alloc, number, port, place, lines)?;
+        // Its clause: what isn't forwarded is of a unit that the system itself made.
+        clnp_machine::laws::first_transmissions_are_its_own();
         let copy = &self.copies[at];
         let origin = copy.origin;
         let from = copy.sender;
         let group = is_to_group(copy);
-        let frame = copy.frame.share()?;
+        // As what else comes (`comes`), but the frame is lent where it stands among the copies.
+        empty(&mut self.outputs);
         let input = Input::Frame {
             port,
             from,
             group,
-            frame: &frame,
+            frame: &copy.frame,
         };
-        self.comes(alloc, place, origin, &input, lines)
+        self.systems[place].step(alloc, &input, &mut self.outputs)?;
+        self.put_all_out(alloc, place, origin, lines)
     }
 
     /// Whether a copy is older, by its maker's clock, than one may be that is given.
