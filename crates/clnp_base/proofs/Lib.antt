@@ -1,5 +1,6 @@
 pub mod Choices
 pub mod Decimals
+mod Ends
 pub mod Filters
 pub mod Found
 pub mod Hexadecimal

@@ -1,6 +1,8 @@
 //! Octets copied over others.
 ghost use Rattle.std.specs.Prelude.{◌≡◌, ◌*◌, ◌≤◌, length};
 
+use std::simd::prelude::*;
+
 /// Writes octets over a place of as many.
 #[inline(always)]
 pub fn copy_over(octets: &[u8], place: &mut [u8])
@@ -27,7 +29,10 @@ fn copy_ends<const PART: usize>(octets: &[u8], place: &mut [u8])
     requires most { length octets.now ≤ 2 * PART }
     ensures { place.new ≡ octets.now }
 {
+    // Both are read before the first is written, so that it needn't be asked whether the two places overlap.
     let last = octets.len() - PART;
-    place[..PART].copy_from_slice(&octets[..PART]);
-    place[last..last + PART].copy_from_slice(&octets[last..last + PART]);
+    let front = Simd::<u8, PART>::from_slice(octets);
+    let end = Simd::<u8, PART>::from_slice(&octets[last..]);
+    front.copy_to_slice(place);
+    end.copy_to_slice(&mut place[last..]);
 }

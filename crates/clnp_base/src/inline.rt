@@ -124,6 +124,7 @@ impl<const MOST: usize> Eq for InlineOctets<MOST> {
 }
 
 /// Writes the piece over the cells from an index on.
+#[inline(always)]
 fn lay(cells: &mut [u8], at: usize, piece: &[u8])
     requires { at + length piece.now ≤ length cells.old }
     ensures { cells.new ≡ take at cells.old ++ (piece.now ++ drop (at + length piece.now) cells.old) }
