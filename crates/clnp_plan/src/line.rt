@@ -200,6 +200,22 @@ fn lay_word(word: &Word<'_>, at: usize, place: &mut [u8]) -> usize
     match *word {
         Word::Text(text) => lay(text, at, place),
         Word::Number(number) => lay_decimal(number, at, place),
+        Word::Octets(octets) => lay_hex(octets, at, place),
+        Word::Address(address) => lay_hex(address.as_bytes(), at, place),
+        _ => lay_other_word(word, at, place),
+    }
+}
+
+/// The same of any word, apart from `lay_word` for those that few lines have: so what lays a line's words one behind the other
+/// is small enough to be laid out for each word that a caller names.
+#[inline(never)]
+fn lay_other_word(word: &Word<'_>, at: usize, place: &mut [u8]) -> usize
+    requires { at + length (word_text word.now) ≤ length place.old }
+    ensures { Lays at (word_text word.now) place.old result place.new }
+{
+    match *word {
+        Word::Text(text) => lay(text, at, place),
+        Word::Number(number) => lay_decimal(number, at, place),
         Word::KeyedNumber(key, number) => lay_number(key, number, at, place),
         Word::Octet(octet) => lay_hex(&[octet], at, place),
         Word::Identifier(identifier) => lay_hex(&identifier.to_be_bytes(), at, place),
