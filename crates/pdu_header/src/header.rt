@@ -186,6 +186,10 @@ impl Header {
             → SpellsHeader (with_options (edited recording (recorded title.now) v.options) v) self.new }
         ensures len { length self.new ≡ length self.old }
     {
+        // Most headers have no options, and aren't copied for it.
+        if options_of(self.cells.as_bytes()).is_empty() {
+            return;
+        }
         let start = options_index(self.cells.as_bytes());
         let mut changed = self.cells;
         record_title(&mut changed, start, title.as_bytes());
