@@ -108,6 +108,7 @@ impl Network {
 
     /// The next system that a copy is for, from a place on in the order of the declarations, and the least of its ports
     /// by which the copy comes in. Nothing changes while it is looked for, so the copy is read once for all of them.
+    #[inline(always)]
     fn next_addressee(&self, at: usize, from: usize) -> Option<Addressee>
         requires at_in { at < vec_len self.now.copies }
         ensures next { (model : network.LabelledNetwork) (copy : network.Copy) → Shows self.now model
