@@ -10,6 +10,38 @@ use nsap::Address;
 use nsap::base::NoMemory;
 use std::alloc::Global;
 use std::marker::Model;
+use std::simd::prelude::*;
+
+/// An entry that begins where a line of a processor's cache does, so that it lies in one line and not in two: a hearing of
+/// a known key then waits for one line of the memory.
+#[derive(Drop)]
+struct InLine {
+    entry: Entry,
+    _start: [LineStart; 0],
+}
+
+/// What stands only where a line of a cache begins. No entry has one: room for none puts it at such a place.
+#[derive(Clone, Copy)]
+struct LineStart {
+    _octets: Simd<u8, 64>,
+}
+
+impl Model for InLine {
+    ghost use Rattle.esis_tables.specs.declared.table.Entry.{Entry};
+
+    ghost Value = { Entry };
+
+    ghost view = { λ l. l.entry };
+}
+
+impl InLine {
+    /// An entry, put where a line begins.
+    fn of(entry: Entry) -> InLine
+        ensures { result ≡ entry }
+    {
+        InLine { entry, _start: [] }
+    }
+}
 
 /// The entries of a table, in their order.
 ///
@@ -20,7 +52,7 @@ use std::marker::Model;
 pub(super) struct Slots {
     limit: u16,
     /// By slot. Where a slot is free, that which was taken out last stands there still.
-    entries: Vec<Entry>,
+    entries: Vec<InLine>,
     /// The slots that are taken, in the order of their entries.
     order: Vec<u16>,
     /// The slots that are free.
@@ -82,7 +114,7 @@ impl Slots {
         ensures { slice_get self.now.entries place ≡ Some result.now }
     {
         let slot = usize::from(self.order[place]);
-        &self.entries[slot]
+        &self.entries[slot].entry
     }
 
     /// The key of the entry at a place.
@@ -91,7 +123,7 @@ impl Slots {
         ensures { option_map key_in (slice_get self.now.entries place) ≡ Some result.now }
     {
         let slot = usize::from(self.order[place]);
-        &self.entries[slot].key
+        &self.entries[slot].entry.key
     }
 
     /// The key of the entry at a place, if it stands in this slot.
@@ -106,7 +138,7 @@ impl Slots {
         if taken != slot {
             return None;
         }
-        Some(&self.entries[usize::from(slot)].key)
+        Some(&self.entries[usize::from(slot)].entry.key)
     }
 
     /// Puts an entry in at a place. Tells its slot.
@@ -116,7 +148,7 @@ impl Slots {
         ensures entries { self.new.entries ≡ insert self.old.entries place entry }
         ensures limit { self.new.limit ≡ self.old.limit }
     {
-        let slot = fill(&mut self.entries, &mut self.free, entry);
+        let slot = fill(&mut self.entries, &mut self.free, InLine::of(entry));
         let Ok(()) = self.order.insert(place, slot) else {
             unreachable!()
         };
@@ -131,7 +163,7 @@ impl Slots {
     {
         let taken = self.order[place];
         let slot = usize::from(taken);
-        self.entries[slot] = entry;
+        self.entries[slot] = InLine::of(entry);
         taken
     }
 
@@ -146,7 +178,7 @@ impl Slots {
         let Ok(()) = self.free.push(slot) else {
             unreachable!()
         };
-        self.entries[usize::from(slot)]
+        self.entries[usize::from(slot)].entry
     }
 
     /// Takes all out.
@@ -169,7 +201,7 @@ fn with_room<T>(alloc: Global, most: u16) -> Result<Vec<T>, NoMemory>
 }
 
 /// Puts an entry into a slot that is free, or into a new one behind the others.
-fn fill(entries: &mut Vec<Entry>, free: &mut Vec<u16>, entry: Entry) -> u16
+fn fill(entries: &mut Vec<InLine>, free: &mut Vec<u16>, entry: InLine) -> u16
     requires free { AllByRecursion (λ slot. slot < length entries.old.items) free.old.items }
     requires room { free.old.items ≡ [] → (length entries.old.items < 2 ^ 16)
         × (length entries.old.items < vec_capacity entries.old) }

@@ -1,5 +1,5 @@
 -- By the slot that stands at the place.
-use Rattle.std.proofs.Common.{◌∙◌, ap, arith, sym}
+use Rattle.std.proofs.Common.{◌∙◌, Some, ap, arith, sym}
 use Rattle.std.specs.Prelude.{slice_get}
 use Rattle.esis_tables.proofs.Slots.{as_many, entry_read, slot_read, within_at}
 use Rattle.esis_tables.proofs.table.slots.Slots.at.Goals as goal
@@ -17,3 +17,4 @@ returns c =
     let at = slot_read c.self.invariant.0 c.self.view_is c.requires c.index.ensures c.from-slot.ensures in
     ap (λ v. slice_get v.entries c.args.place) (sym c.self.view_is)
     ∙ entry_read c.self.invariant.0 c.args.place at c.index-2.result.now c.index-2.ensures
+    ∙ ap Some (sym c.behind-self.view_is)

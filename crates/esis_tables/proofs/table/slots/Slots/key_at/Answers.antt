@@ -1,5 +1,5 @@
 -- By the slot that stands at the place.
-use Rattle.std.proofs.Common.{◌∙◌, ap, arith, sym}
+use Rattle.std.proofs.Common.{◌∙◌, Some, ap, arith, sym}
 use Rattle.std.specs.Option.{option_map}
 use Rattle.std.specs.Prelude.{slice_get}
 use Rattle.esis_tables.specs.State.{key_in}
@@ -19,3 +19,4 @@ returns c =
     let at = slot_read c.self.invariant.0 c.self.view_is c.requires c.index.ensures c.from-slot.ensures in
     ap (λ v. option_map key_in (slice_get v.entries c.args.place)) (sym c.self.view_is)
     ∙ key_read c.self.invariant.0 c.args.place at c.index-2.result.now c.index-2.ensures
+    ∙ ap (λ entry. Some entry.key) (sym c.behind-self.view_is)

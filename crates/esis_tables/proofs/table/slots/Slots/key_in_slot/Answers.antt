@@ -1,5 +1,5 @@
 -- By the slot that stands at the place.
-use Rattle.std.proofs.Common.{◌∙◌, ◌<◌, ap, arith, length, sym}
+use Rattle.std.proofs.Common.{◌∙◌, Some, ◌<◌, ap, arith, length, sym}
 use Rattle.std.specs.Option.{option_map}
 use Rattle.std.specs.Prelude.{slice_get}
 use Rattle.esis_tables.specs.State.{key_in}
@@ -21,5 +21,6 @@ returns c =
     let at = slot_read c.self.invariant.0 c.self.view_is there c.index-taken.ensures (c.from.ensures ∙ sym c.if-taken-slot.false) in (
       there,
       ap (λ v. option_map key_in (slice_get v.entries c.args.place)) (sym c.self.view_is)
-          ∙ key_read c.self.invariant.0 c.args.place at c.index.result.now c.index.ensures,
+          ∙ key_read c.self.invariant.0 c.args.place at c.index.result.now c.index.ensures
+          ∙ ap (λ entry. Some entry.key) (sym c.behind-self.view_is),
     )

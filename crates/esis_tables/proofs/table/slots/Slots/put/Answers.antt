@@ -1,5 +1,5 @@
 -- The entry comes into a slot that was free.
-use Rattle.std.proofs.Common.{◌<◌, ◌≤◌, ◌∙◌, ℕ, List, ap, arith, length}
+use Rattle.std.proofs.Common.{◌<◌, ◌≤◌, ◌∙◌, ℕ, List, Some, ap, arith, length}
 use Rattle.std.specs.List.{insert}
 use Rattle.esis_tables.proofs.Slots.{as_many, free_within, put_entries, put_taken}
 use Rattle.esis_tables.proofs.table.slots.Slots.put.Goals as goal
@@ -63,6 +63,7 @@ returns-clause-entries c =
     let many = as_many c.self.invariant.0 c.self.view_is in
     let place : c.args.place ≤ length t.order.items = omega (arith, c.requires.place, many) in
     rw c.in-Ok.ensures.items (
-    put_entries c.self.invariant.0 (filled.taken t.order.items c.self.invariant.0) place c.args.entry filled.others filled.there
+    put_entries c.self.invariant.0 (filled.taken t.order.items c.self.invariant.0) place c.args.entry filled.others
+    (filled.there ∙ ap Some c.of.ensures)
     ∙ ap (λ v. insert v.entries c.args.place c.args.entry) c.self.view_is
     )

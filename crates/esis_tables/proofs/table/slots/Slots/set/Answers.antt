@@ -17,8 +17,8 @@ pub invariant_of-self : goal.invariant_of-self
 invariant_of-self c =
     let entries = c.self.inside.entries.items in
     let slot = c.from-slot.result in (
-      set_taken c.self.invariant.0 slot c.args.entry,
-      omega (arith, length-set entries slot c.args.entry, c.self.invariant.1),
+      rw c.of.ensures (set_taken c.self.invariant.0 slot c.args.entry),
+      omega (arith, length-set entries slot c.of.result, c.self.invariant.1),
       c.self.invariant.2,
       c.self.invariant.3,
       c.self.invariant.4,
@@ -28,5 +28,5 @@ invariant_of-self c =
 pub returns-clause-entries : goal.returns-clause-entries
 returns-clause-entries c =
     let at = slot_read c.self.invariant.0 c.self.view_is c.requires c.index-taken.ensures c.from-slot.ensures in
-    set_entries c.self.invariant.0 c.args.place at c.args.entry
-    ∙ ap (λ v. slice_set v.entries c.args.place c.args.entry) c.self.view_is
+    rw c.of.ensures (set_entries c.self.invariant.0 c.args.place at c.args.entry
+    ∙ ap (λ v. slice_set v.entries c.args.place c.args.entry) c.self.view_is)

@@ -1,5 +1,5 @@
 -- The slot that stood at the place is free then.
-use Rattle.std.proofs.Common.{◌∙◌, ap, arith, refl, sym}
+use Rattle.std.proofs.Common.{◌∙◌, Some, ap, arith, refl, sym}
 use Rattle.std.specs.Prelude.{slice_get, slice_index_or}
 use Rattle.std.specs.List.{remove}
 use Rattle.esis_tables.proofs.Slots.{as_many, entry_read, out_entries, out_taken, slot_read, within_at}
@@ -30,6 +30,7 @@ returns-clause-entry c =
     ap (λ v. slice_get v.entries c.args.place) (sym c.self.view_is)
     ∙ entry_read c.self.invariant.0 c.args.place at c.index.result.now
     (c.index.ensures ∙ ap (λ n. slice_index_or c.self.inside.entries.items n c.index.result.now) c.from.ensures)
+    ∙ ap Some (sym c.behind-self.view_is)
 
 pub returns-clause-entries : goal.returns-clause-entries
 returns-clause-entries c =
