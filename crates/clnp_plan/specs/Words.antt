@@ -24,3 +24,7 @@ word_text (Pattern len start) = (codes "pat:" ++ decimal len) ++ (codes ":" ++ d
 -- a system's line: its beginning, and the words behind it
 abbrev pub line_from : Start → List (List ℕ) → List ℕ
 line_from start words = line_of (decimal start.moment) (start.name.now ∷ words)
+
+-- the texts of five words
+abbrev pub five_texts : Word → Word → Word → Word → Word → List (List ℕ)
+five_texts one two three four five = word_text one ∷ word_text two ∷ word_text three ∷ word_text four ∷ word_text five ∷ []

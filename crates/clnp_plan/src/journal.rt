@@ -7,7 +7,9 @@ ghost use Rattle.pdu_header.specs.Spelling.{pair_of};
 ghost use Rattle.clnp_plan.specs.Journal.{ForNobody, Injected, Late, Lost, Noted, Received, Resized, Transmitted, Void, line_of, line_text, trace_text, end_text, heard_words, ignored_word, kind_word, table_word, why_word, octet_word, octets_word, identifier_word, rule_word, yes_or_no};
 ghost use Rattle.clnp_plan.specs.Words.{line_from, word_text};
 
-use crate::line::{Word, kind_word, octets_word, on_or_off, push_line, target_text};
+use crate::line::{
+    Word, kind_word, octets_word, on_or_off, push_line, push_line_of_six, target_text,
+};
 use crate::note::{Note, Why};
 use esis_tables::{Heard, TableKind};
 use pdu_header::Kind;
@@ -301,9 +303,9 @@ fn push_hearing<'a>(
     let table = table_word(table);
     let key = Word::Address(key);
     match heard {
-        Heard::New => push_three(start, b"hear", table, key, Word::Text(b"new"), out),
-        Heard::Again => push_three(start, b"hear", table, key, Word::Text(b"again"), out),
-        Heard::Zero => push_three(start, b"hear", table, key, Word::Text(b"zero"), out),
+        Heard::New => push_heard(start, table, key, b"new", out),
+        Heard::Again => push_heard(start, table, key, b"again", out),
+        Heard::Zero => push_heard(start, table, key, b"zero", out),
         Heard::Full { entries } => {
             let words = [
                 Word::Text(start.name),
@@ -316,6 +318,30 @@ fn push_hearing<'a>(
             push_line(Word::Number(start.moment), &words, out)
         }
     }
+}
+
+/// Appends the line of a hearing that ends with a text.
+#[inline(always)]
+fn push_heard<'a>(
+    start: Start<'a>,
+    table: Word<'a>,
+    key: Word<'a>,
+    how: &'a [u8],
+    out: &mut Vec<u8>,
+) -> Result<(), NoMemory>
+    ensures written { OnOk result (out.new.items ≡ out.old.items
+        ++ line_from start.entry (codes "hear" ∷ word_text table.entry ∷ word_text key.entry ∷ how.now ∷ [])) }
+    ensures same { OnErr result (out.new.items ≡ out.old.items) }
+{
+    push_line_of_six(
+        Word::Number(start.moment),
+        Word::Text(start.name),
+        Word::Text(b"hear"),
+        table,
+        key,
+        Word::Text(how),
+        out,
+    )
 }
 
 /// Appends the line of a port that was put on a subnetwork.

@@ -3,7 +3,7 @@ ghost use Rattle.std.specs.Prelude.{◌≡◌, ◌≤◌, ◌+◌, [], ◌∷◌
 ghost use Rattle.std.specs.Fmt.{decimal};
 ghost use Rattle.std.specs.List.{flat_map};
 ghost use Rattle.clnp_plan.specs.Journal.{behind_space, line_of, octets_word, on_or_off, target_text};
-ghost use Rattle.clnp_plan.specs.Words.{word_text};
+ghost use Rattle.clnp_plan.specs.Words.{five_texts, word_text};
 ghost use Rattle.clnp_plan.specs.Laying.{HasRoom, Lays};
 ghost use Rattle.pdu_header.specs.Kinds.{kind_word};
 ghost use Rattle.pdu_header.specs.Nsap.Prefix.{prefix_text};
@@ -69,6 +69,35 @@ pub fn push_line<'a>(
     Ok(())
 }
 
+/// Appends a line of six words, as those of what is heard again, of which a journal can have most. The words are handed over
+/// one by one and stand in no list, so that nothing of them is written to memory and read again.
+///
+/// # Errors
+///
+/// `NoMemory`; `out` is then as it was.
+#[inline(always)]
+pub(crate) fn push_line_of_six<'a>(
+    first: Word<'a>,
+    one: Word<'a>,
+    two: Word<'a>,
+    three: Word<'a>,
+    four: Word<'a>,
+    five: Word<'a>,
+    out: &mut Vec<u8>,
+) -> Result<(), NoMemory>
+    ensures written { OnOk result (out.new.items ≡ out.old.items ++ line_of (word_text first.entry)
+        (five_texts one.entry two.entry three.entry four.entry five.entry)) }
+    ensures same { OnErr result (out.new.items ≡ out.old.items) }
+{
+    let start = out.len();
+    let words = room_for_five(&one, &two, &three, &four, &five);
+    let room = room_for(&first).saturating_add(words).saturating_add(1);
+    make_room(room, out)?;
+    let len = lay_line_of_six(&first, &one, &two, &three, &four, &five, &mut out[start..]);
+    out.truncate(start + len);
+    Ok(())
+}
+
 /// Appends words, each behind a space.
 ///
 /// # Errors
@@ -117,6 +146,24 @@ fn room_for_words(words: &[Word<'_>]) -> usize
         room = room.saturating_add(1).saturating_add(room_for(word));
     }
     room
+}
+
+/// Room for five words, each behind a space.
+#[inline(always)]
+fn room_for_five(
+    one: &Word<'_>,
+    two: &Word<'_>,
+    three: &Word<'_>,
+    four: &Word<'_>,
+    five: &Word<'_>,
+) -> usize
+    ensures { HasRoom result (flat_map behind_space (five_texts one.now two.now three.now four.now five.now)) }
+{
+    let room = room_for(one).saturating_add(room_for(two));
+    let room = room.saturating_add(room_for(three));
+    let room = room.saturating_add(room_for(four));
+    let room = room.saturating_add(room_for(five));
+    room.saturating_add(5)
 }
 
 /// Room for a word.
@@ -177,6 +224,28 @@ fn lay_line(first: &Word<'_>, others: &[Word<'_>], place: &mut [u8]) -> usize
     lay_octet(b'\n', at, place)
 }
 
+/// Lays a line of six words at the front of a place, and tells its length.
+#[inline(always)]
+fn lay_line_of_six(
+    first: &Word<'_>,
+    one: &Word<'_>,
+    two: &Word<'_>,
+    three: &Word<'_>,
+    four: &Word<'_>,
+    five: &Word<'_>,
+    place: &mut [u8],
+) -> usize
+    requires { length (line_of (word_text first.now)
+        (five_texts one.now two.now three.now four.now five.now)) ≤ length place.old }
+    ensures laid { take result place.new ≡ line_of (word_text first.now)
+        (five_texts one.now two.now three.now four.now five.now) }
+    ensures end { result ≡ length (line_of (word_text first.now) (five_texts one.now two.now three.now four.now five.now)) }
+{
+    let end = lay_word(first, 0, place);
+    let end = lay_five(one, two, three, four, five, end, place);
+    lay_octet(b'\n', end, place)
+}
+
 /// Lays words from an index on, each behind a space, and tells where they end.
 #[inline(always)]
 fn lay_words(words: &[Word<'_>], at: usize, place: &mut [u8]) -> usize
@@ -189,6 +258,38 @@ fn lay_words(words: &[Word<'_>], at: usize, place: &mut [u8]) -> usize
         end = lay_word(word, end, place);
     }
     end
+}
+
+/// Lays five words from an index on, each behind a space, and tells where they end.
+#[inline(always)]
+fn lay_five(
+    one: &Word<'_>,
+    two: &Word<'_>,
+    three: &Word<'_>,
+    four: &Word<'_>,
+    five: &Word<'_>,
+    at: usize,
+    place: &mut [u8],
+) -> usize
+    requires { at + length (flat_map behind_space (five_texts one.now two.now three.now four.now five.now)) ≤ length place.old }
+    ensures { Lays at (flat_map behind_space (five_texts one.now two.now three.now four.now five.now))
+        place.old result place.new }
+{
+    let end = lay_spaced(one, at, place);
+    let end = lay_spaced(two, end, place);
+    let end = lay_spaced(three, end, place);
+    let end = lay_spaced(four, end, place);
+    lay_spaced(five, end, place)
+}
+
+/// Lays a word behind a space, from an index on, and tells where it ends.
+#[inline(always)]
+fn lay_spaced(word: &Word<'_>, at: usize, place: &mut [u8]) -> usize
+    requires { at + length (behind_space (word_text word.now)) ≤ length place.old }
+    ensures { Lays at (behind_space (word_text word.now)) place.old result place.new }
+{
+    let at = lay_octet(b' ', at, place);
+    lay_word(word, at, place)
 }
 
 /// Lays a word from an index on, and tells where it ends.
