@@ -127,7 +127,7 @@ map-slice_set f [] i x = refl
 map-slice_set f (y ∷ xs) zero x = refl
 map-slice_set f (y ∷ xs) (suc i) x = ap (λ l. f y ∷ l) (map-slice_set f xs i x)
 
-map-remove : {X Y : Type 0} (f : X → Y) (xs : List X) (i : ℕ) → map f (remove xs i) ≡ remove (map f xs) i
+pub map-remove : {X Y : Type 0} (f : X → Y) (xs : List X) (i : ℕ) → map f (remove xs i) ≡ remove (map f xs) i
 map-remove f [] zero = refl
 map-remove f [] (suc i) = refl
 map-remove f (y ∷ xs) zero = refl
@@ -143,7 +143,7 @@ all_set P [] i x all is = tt
 all_set P (y ∷ xs) zero x all is = (is, all.1)
 all_set P (y ∷ xs) (suc i) x all is = (all.0, all_set P xs i x all.1 is)
 
-all_left : {X : Type 0} (P : X → Type 0) (xs : List X) (i : ℕ) → AllByRecursion P xs → AllByRecursion P (remove xs i)
+pub all_left : {X : Type 0} (P : X → Type 0) (xs : List X) (i : ℕ) → AllByRecursion P xs → AllByRecursion P (remove xs i)
 all_left P [] zero all = tt
 all_left P [] (suc i) all = tt
 all_left P (y ∷ xs) zero all = all.1
@@ -385,70 +385,64 @@ sum_push (first ∷ counts) count =
 
 -- ---- what holds of the pages of units, after each change
 
-module _ (counts : List ℕ) (pages spare : List (List Run)) (slots room most : ℕ) (paged : ArePages counts pages spare slots room most) where
-  pub pages_mapped : (f : Run → Run) (after : List (List Run)) → after ≡ map (map f) pages → ArePages counts after spare slots room most
-  pages_mapped f after after_is =
+module _ (counts : List ℕ) (pages : List (List Run)) (slots room most : ℕ) (paged : ArePages counts pages slots room most) where
+  pub pages_mapped : (f : Run → Run) (after : List (List Run)) (more : ℕ) → after ≡ map (map f) pages → more ≡ most → ArePages counts after slots room more
+  pages_mapped f after more after_is same =
       let long = ap length after_is ∙ length-map pages (map f) in
       record {
         number = paged.number ∙ sym long;
         dense = mapped_dense counts pages _ refl paged.number f after after_is paged.dense;
         few_units = paged.few_units;
-        enough = omega (arith, paged.enough, long);
-        fit = omega (arith, paged.fit, long);
+        enough = omega (arith, paged.enough, same);
+        fit = (omega (arith, paged.fit.0, long, same), omega (arith, paged.fit.1, same));
       }
 
-  pub pages_opened : (page : List Run) (after spare_after : List (List Run)) (counted : List ℕ) (more : ℕ) → length counts < slots
-      → after ≡ pages ++ page ∷ [] → counted ≡ counts ++ 1 ∷ [] → length spare ≡ length spare_after + 1 → most ≤ more → ArePages counted after spare_after slots room more
-  pages_opened page after spare_after counted more free after_is counted_is spare_is wider =
+  pub pages_opened : (page : List Run) (after : List (List Run)) (counted : List ℕ) (more : ℕ) → length counts < slots → length pages < most
+      → after ≡ pages ++ page ∷ [] → counted ≡ counts ++ 1 ∷ [] → more ≡ most → ArePages counted after slots room more
+  pages_opened page after counted more free wide after_is counted_is same =
       let long = ap length after_is ∙ length_push pages page in
       record {
         number = ap sum counted_is ∙ (let e = sum_push counts 1 in omega (arith, e, paged.number, long));
         dense = pushed_dense counts pages _ refl paged.number page after counted after_is counted_is paged.dense;
         few_units = omega (arith, ap length counted_is, length_push counts 1, free);
-        enough = omega (arith, paged.enough, long, spare_is);
-        fit = omega (arith, paged.fit, long, spare_is, wider);
+        enough = omega (arith, paged.enough, same);
+        fit = (omega (arith, wide, long, same), omega (arith, paged.fit.1, same));
       }
 
   module _ (slot : ℕ) (within : slot < length counts) (start count : ℕ) (start_is : start ≡ sum (take slot counts)) (count_is : count ≡ get_or counts slot 0) where
     there : slot < length (map on_pages (groups_of counts pages))
     there = omega (arith, within, counted_as counts pages _ refl paged.number)
 
-    pub pages_changed : (new after spare_after : List (List Run)) (counted : List ℕ) (more : ℕ)
+    pub pages_changed : (new after : List (List Run)) (counted : List ℕ) (more : ℕ)
         → after ≡ take start pages ++ (new ++ drop count (drop start pages)) → counted ≡ slice_set counts slot (length new)
-        → wanting new ≤ wanting (take count (drop start pages)) → length spare_after + length new ≡ length spare + count → most ≤ more
-        → ArePages counted after spare_after slots room more
-    pages_changed new after spare_after counted more after_is counted_is less spare_is wider =
-        let all = replaced_sum counts pages _ refl paged.number slot there start count start_is count_is new after counted after_is counted_is in
-        let set = ap sum counted_is in
-        let s = sum-set counts slot (length new) within in
+        → wanting new ≤ wanting (take count (drop start pages)) → length after ≤ most → more ≡ most → ArePages counted after slots room more
+    pages_changed new after counted more after_is counted_is less wide same =
         record {
-          number = all;
+          number = replaced_sum counts pages _ refl paged.number slot there start count start_is count_is new after counted after_is counted_is;
           dense = replaced_dense counts pages _ refl paged.number slot there start count start_is count_is new after counted after_is counted_is paged.dense less;
           few_units = omega (arith, ap length counted_is, length-set counts slot (length new), paged.few_units);
-          enough = omega (arith, paged.enough, all, set, s, spare_is, paged.number, count_is);
-          fit = omega (arith, paged.fit, all, set, s, spare_is, paged.number, count_is, wider);
+          enough = omega (arith, paged.enough, same);
+          fit = (omega (arith, wide, same), omega (arith, paged.fit.1, same));
         }
 
-    pub pages_removed : (after spare_after : List (List Run)) (counted : List ℕ) (more : ℕ) → after ≡ take start pages ++ drop (start + count) pages
-        → counted ≡ remove counts slot → length spare_after ≡ length spare + count → most ≤ more → ArePages counted after spare_after slots room more
-    pages_removed after spare_after counted more after_is counted_is spare_is wider =
+    pub pages_removed : (after : List (List Run)) (counted : List ℕ) (more : ℕ) → after ≡ take start pages ++ drop (start + count) pages
+        → counted ≡ remove counts slot → more ≡ most → ArePages counted after slots room more
+    pages_removed after counted more after_is counted_is same =
         let all = taken_sum counts pages _ refl paged.number slot there start count start_is count_is after counted after_is counted_is in
-        let set = ap sum counted_is in
         let s = sum-remove counts slot within in
         record {
           number = all;
           dense = taken_dense counts pages _ refl paged.number slot there start count start_is count_is after counted after_is counted_is paged.dense;
           few_units = omega (arith, ap length counted_is, length-remove counts slot within, paged.few_units);
-          enough = omega (arith, paged.enough, all, set, s, spare_is, paged.number, count_is);
-          fit = omega (arith, paged.fit, all, set, s, spare_is, paged.number, count_is, wider);
+          enough = omega (arith, paged.enough, same);
+          fit = (omega (arith, all, ap sum counted_is, s, paged.number, paged.fit.0, same), omega (arith, paged.fit.1, same));
         }
 
-  pub pages_cleared : (after spare_after : List (List Run)) (counted : List ℕ) (more : ℕ) → length after ≡ 0 → counted ≡ [] → length spare_after ≡ length spare + length pages
-      → most ≤ more → ArePages counted after spare_after slots room more
-  pages_cleared after spare_after counted more none counted_is spare_is wider = record {
+  pub pages_cleared : (after : List (List Run)) (counted : List ℕ) (more : ℕ) → length after ≡ 0 → counted ≡ [] → more ≡ most → ArePages counted after slots room more
+  pages_cleared after counted more none counted_is same = record {
     number = ap sum counted_is ∙ sym none;
     dense = subst (λ l. AllByRecursion IsDense (groups_of l after)) (sym counted_is) tt;
     few_units = omega (arith, ap length counted_is);
-    enough = omega (arith, paged.enough, none, spare_is);
-    fit = omega (arith, paged.fit, none, spare_is, wider);
+    enough = omega (arith, paged.enough, same);
+    fit = (omega (arith, none), omega (arith, paged.fit.1, same));
   }

@@ -28,6 +28,7 @@ pub mod LawTimes
 pub mod Mapped
 pub mod Marking
 pub mod NoWhole
+pub mod Numbered
 pub mod Opened
 pub mod Paged
 pub mod Passing

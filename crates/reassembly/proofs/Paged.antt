@@ -1,14 +1,14 @@
 -- The page on which a hole is cut.
-use Rattle.std.proofs.Common.{◌≡◌, ℕ, zero, suc, ◌+◌, ◌-◌, ◌<◌, ◌≤◌, nat_lt, Bool, true, false, List, [], ◌∷◌, ◌++◌, Some, None, length, map, take, drop, get_or, inl, inr, refl, sym, ap, subst, ◌∙◌, arith}
+use Rattle.std.proofs.Common.{◌≡◌, ℕ, zero, suc, ◌+◌, ◌-◌, ◌<◌, ◌≤◌, nat_lt, Bool, true, false, List, [], ◌∷◌, ◌++◌, Some, None, length, map, take, take-add, drop, get_or, inl, inr, refl, sym, ap, subst, ◌∙◌, arith}
 use Rattle.std.specs.Prelude.{slice_get, slice_set}
 use Rattle.std.specs.List.{insert, list_any, position_from, remove}
 use Rattle.std.proofs.lemmas.Bool.{cases_Bool, false≢true, ltb-false, ltb-true, or_cases, or_left, or_right}
-use Rattle.std.proofs.lemmas.List.{append-nil, append_assoc, drop-drop, drop_at, get_or-drop, get_or-take, length-drop, length-set, length-take, set-append_left, set-append_right, take_at, take_more}
-use Rattle.std.proofs.lemmas.List.Edits.{insert-append_left, insert-append_right, length-insert}
-use Rattle.std.proofs.lemmas.Option.{same_Some, slice_get-get_or}
+use Rattle.std.proofs.lemmas.List.{append-nil, append_assoc, drop-drop, drop-append-le, drop_at, get_or-append_right, get_or-drop, get_or_default, length-append, length-map, get_or-take, length-drop, length-set, length-take, set-append_left, set-append_right, take-append-drop, take-take, take_all, take_at, take_more}
+use Rattle.std.proofs.lemmas.List.Edits.{insert-append_left, insert-append_right, length-insert, map_over_more}
+use Rattle.std.proofs.lemmas.Option.{get_or_from_slice_get, same_Some, slice_get-get_or, slice_get_within}
 use Rattle.nsap.proofs.ClnpBase.Found.{is_first, none_found}
 use Rattle.reassembly.specs.declared.runs.Run.{Run}
-use Rattle.reassembly.specs.Pages.{AreCut, ends_behind, on_pages, wanting}
+use Rattle.reassembly.specs.Pages.{AreCut, AreHalves, ends_behind, on_pages, wanting}
 use Rattle.reassembly.specs.Runs.{AreInOrder, AreJoined, cut, is_across}
 use Rattle.reassembly.proofs.Groups.{on_pages-append, parted}
 use Rattle.reassembly.proofs.Filling.{NoneAcross, any_parts, cut_none, none_at_end, none_behind}
@@ -203,11 +203,6 @@ module _ (place at : ℕ) (pages : List (List Run)) (page : List Run) (order : A
 
 -- ---- what is left of the runs of a unit
 
-pub nothing_left : (first : List Run) (others : List (List Run)) → length first ≡ 0 → length others ≡ 0 → first ++ on_pages others ≡ []
-nothing_left [] [] a b = refl
-nothing_left [] (page ∷ others) a b = absurd (omega arith)
-nothing_left (run ∷ first) others a b = absurd (omega arith)
-
 pub next_page : (first page : List Run) (others rest : List (List Run)) → length first ≡ 0 → others ≡ page ∷ rest
     → page ++ on_pages rest ≡ first ++ on_pages others
 next_page [] page others rest a e = sym (ap on_pages e)
@@ -272,9 +267,119 @@ still_there {X = X} f xs ys i x within ys_are more read =
     rest (z ∷ zs) zero = refl
     rest (z ∷ zs) (suc k) = rest zs k
 
+-- a part of a part, among all
+pub inner_part : {X : Type 0} (xs middle : List X) (s c a n : ℕ) → a + n ≤ c → s + c ≤ length xs
+    → take (s + a) xs ++ (middle ++ drop n (drop (s + a) xs))
+    ≡ take s xs ++ ((take a (take c (drop s xs)) ++ (middle ++ drop n (drop a (take c (drop s xs))))) ++ drop c (drop s xs))
+inner_part xs middle s c a n within most =
+    let rest = drop s xs in
+    let part = take c rest in
+    let long : a + n ≤ length part = omega (arith, length-take c rest, length-drop s xs, most, within) in
+    let front : take (s + a) xs ≡ take s xs ++ take a part = take-add s a xs ∙ ap (λ l. take s xs ++ l) (sym (take-take a c rest (omega (arith, within)))) in
+    let back : drop n (drop (s + a) xs) ≡ drop n (drop a part) ++ drop c rest
+    = drop-drop n (s + a) xs ∙ ap (λ k. drop k xs) (let e : s + a + n ≡ s + (a + n) = omega arith in e) ∙ sym (drop-drop (a + n) s xs)
+    ∙ ap (drop (a + n)) (sym (take-append-drop c rest)) ∙ drop-append-le (a + n) part (drop c rest) long
+    ∙ ap (λ l. l ++ drop c rest) (sym (drop-drop n a part)) in
+    ap (λ l. l ++ (middle ++ drop n (drop (s + a) xs))) front
+    ∙ ap (λ l. (take s xs ++ take a part) ++ (middle ++ l)) back
+    ∙ append_assoc (take s xs) (take a part) (middle ++ (drop n (drop a part) ++ drop c rest))
+    ∙ ap (λ l. take s xs ++ (take a part ++ l)) (sym (append_assoc middle (drop n (drop a part)) (drop c rest)))
+    ∙ ap (λ l. take s xs ++ l) (sym (append_assoc (take a part) (middle ++ drop n (drop a part)) (drop c rest)))
+
+pub front_there : {X : Type 0} (xs : List X) (i n : ℕ) (x : X) → slice_get xs i ≡ Some x → i < n → slice_get (take n xs) i ≡ Some x
+front_there [] i n x e within = absurd (cc)
+front_there (y ∷ xs) i zero x e within = absurd (omega (arith, within))
+front_there (y ∷ xs) zero (suc n) x e within = e
+front_there (y ∷ xs) (suc i) (suc n) x e within = front_there xs i n x e (omega (arith, within))
+
+pub first_parted : {X : Type 0} (xs rest : List X) (x : X) (n : ℕ) → slice_get xs 0 ≡ Some x → n ≡ length xs → rest ≡ take (n - 1) (drop 1 xs) → xs ≡ x ∷ rest
+first_parted [] rest x n e long is = absurd (cc)
+first_parted (y ∷ xs) rest x n e long is =
+    let all : rest ≡ xs = is ∙ take_all (n - 1) xs (omega (arith, long)) in
+    ap (λ z. z ∷ xs) (same_Some y x e) ∙ ap (λ l. x ∷ l) (sym all)
+
+-- none is mapped yet
+pub none_mapped : {X : Type 0} (f : X → X) (items : List X) (start : ℕ)
+    → items ≡ take start items ++ (map f (take (start - start) (drop start items)) ++ drop (start - start) (drop start items))
+none_mapped {X = X} f items start =
+    sym (take-append-drop start items) ∙ ap (λ l. take start items ++ l)
+    (sym (each (drop start items)) ∙ ap (λ n. map f (take n (drop start items)) ++ drop n (drop start items)) (let e : 0 ≡ start - start = omega arith in e))
+  where
+    each : (xs : List X) → map f (take 0 xs) ++ drop 0 xs ≡ xs
+    each [] = refl
+    each (x ∷ xs) = refl
+
+-- items from one on, of which the first ones are mapped
+module _ {X : Type 0} (f : X → X) (d : X) (items pages : List X) (start at : ℕ) (least : start ≤ at) (within : at < length items)
+    (pages_are : pages ≡ take start items ++ (map f (take (at - start) (drop start items)) ++ drop (at - start) (drop start items))) where
+  abbrev others : List X
+  others = drop start items
+
+  abbrev so_far : List X
+  so_far = map f (take (at - start) others) ++ drop (at - start) others
+
+  front_long : length (take start items) ≡ start
+  front_long = omega (arith, length-take start items, least, within)
+
+  inside_others : at - start < length others
+  inside_others = omega (arith, length-drop start items, least, within)
+
+  so_far_long : length so_far ≡ length others
+  so_far_long = omega (
+    arith,
+    length-append (map f (take (at - start) others)) (drop (at - start) others),
+    length-map (take (at - start) others) f,
+    length-take (at - start) others,
+    length-drop (at - start) others,
+  )
+
+  pub as_long : length pages ≡ length items
+  as_long = omega (arith, ap length pages_are, length-append (take start items) so_far, so_far_long, front_long, length-drop start items, least, within)
+
+  read_behind : get_or pages at d ≡ get_or so_far (at - start) d
+  read_behind = ap (λ l. get_or l at d) pages_are ∙ get_or-append_right (take start items) so_far start at d front_long least
+
+  pub not_mapped : slice_get others (at - start) ≡ Some (get_or pages at d)
+  not_mapped =
+      let more : at - start < length so_far = omega (arith, so_far_long, inside_others) in
+      still_there f others so_far (at - start) (get_or pages at d) inside_others refl more
+      (read_behind ∙ get_or_default so_far (at - start) d (get_or pages at d) more)
+
+  pub mapped_more : slice_set pages at (f (get_or pages at d))
+      ≡ take start items ++ (map f (take (at + 1 - start) others) ++ drop (at + 1 - start) others)
+  mapped_more =
+      let more : at - start < length so_far = omega (arith, so_far_long, inside_others) in
+      let next : at - start + 1 ≡ at + 1 - start = omega (arith, least) in
+      ap (λ l. slice_set l at (f (get_or pages at d))) pages_are
+      ∙ set-append_right (take start items) so_far start at (f (get_or pages at d)) front_long least
+      ∙ ap (λ l. take start items ++ l) (map_over_more f others so_far (at - start) (get_or pages at d) inside_others refl
+      (read_behind ∙ get_or_default so_far (at - start) d (get_or pages at d) more))
+      ∙ ap (λ n. take start items ++ (map f (take n others) ++ drop n others)) next
+
+-- ---- the first that passes, found by a walk
+
+module _ {X : Type 0} (p : X → Bool) where
+  found_from : (start : ℕ) (xs : List X) (at : ℕ) (x : X) → slice_get xs at ≡ Some x → p x ≡ true → list_any p (take at xs) ≡ false
+      → position_from p start xs ≡ Some (start + at)
+  found_from start [] at x e passes none = absurd (cc)
+  found_from start (y ∷ xs) zero x e passes none = rw (ap p (same_Some y x e) ∙ passes) (ap (λ n. Some n) (let e : start ≡ start + 0 = omega arith in e))
+  found_from start (y ∷ xs) (suc at) x e passes none =
+      let parts = any_none p y (take at xs) none in
+      rw parts.0 (found_from (start + 1) xs at x e passes parts.1 ∙ ap (λ n. Some n) (let e : start + 1 + at ≡ start + suc at = omega arith in e))
+
+  pub found_there : (xs : List X) (at : ℕ) (x : X) → slice_get xs at ≡ Some x → p x ≡ true → list_any p (take at xs) ≡ false
+      → Some at ≡ position_from p 0 xs
+  found_there xs at x e passes none = sym (found_from 0 xs at x e passes none ∙ ap (λ n. Some n) (let e : 0 + at ≡ at = omega arith in e))
+
+  pub none_next : (xs : List X) (at : ℕ) (x : X) → slice_get xs at ≡ Some x → p x ≡ false → list_any p (take at xs) ≡ false
+      → list_any p (take (at + 1) xs) ≡ false
+  none_next xs at x e fails none =
+      ap (list_any p) (take_more xs at x (slice_get_within xs at x e) ∙ ap (λ y. take at xs ++ y ∷ []) (get_or_from_slice_get xs at x x e))
+      ∙ any_append p (take at xs) (x ∷ []) none (rw fails refl)
+
 -- ---- a hole that is cut on one of the pages of a unit, among those of others
 
-module _ (place start count at : ℕ) (pages spare : List (List Run)) (page : List Run) (within : start + count ≤ length pages)
+module _ (place start count at : ℕ) (pages : List (List Run)) (page : List Run) (within : start + count ≤ length pages)
     (order : AreInOrder (on_pages (take count (drop start pages))))
     (found : position_from (ends_behind place) 0 (take count (drop start pages)) ≡ Some at) where
   abbrev unit : List (List Run)
@@ -301,41 +406,35 @@ module _ (place start count at : ℕ) (pages spare : List (List Run)) (page : Li
         ap (λ l. slice_set l (start + at) new) (parted pages start count)
         ∙ set_inside (take start pages) unit (drop count (drop start pages)) start at new before_long (omega (arith, at_below, unit_long))
 
-    pub cut_whole : (new : List Run) (spare_after : List (List Run)) → new ≡ cut place page → length spare_after ≡ length spare
-        → AreCut place start count count pages spare (slice_set pages (start + at) new) spare_after
-    cut_whole new spare_after is same = record {
-      new = slice_set unit at new;
-      pages_are = set_among new;
-      number = omega (arith, unit_long, length-set unit at new);
-      runs = whole_runs place at unit page order found read_here new is;
-      dense = whole_dense place at unit page order found read_here new is;
-      spare_are = omega (arith, same);
+    pub cut_whole : (after : List (List Run)) → after ≡ slice_set pages (start + at) (cut place page) → AreCut place start count count pages after
+    cut_whole after is = record {
+      new = slice_set unit at (cut place page);
+      pages_are = is ∙ set_among (cut place page);
+      number = omega (arith, unit_long, length-set unit at (cut place page));
+      runs = whole_runs place at unit page order found read_here (cut place page) refl;
+      dense = whole_dense place at unit page order found read_here (cut place page) refl;
     }
 
-    pub cut_halved : (new second : List Run) (after spare_after : List (List Run)) → after ≡ insert (slice_set pages (start + at) new) (start + at + 1) second
-        → new ++ second ≡ cut place page → 32 ≤ length new → 32 ≤ length second → length spare ≡ length spare_after + 1
-        → AreCut place start count (count + 1) pages spare after spare_after
-    cut_halved new second after spare_after after_is is half rest less =
+    pub cut_halved : (after : List (List Run)) → AreHalves (cut place page) (start + at) pages after → AreCut place start count (count + 1) pages after
+    cut_halved after halves =
         let next : start + at + 1 ≡ start + (at + 1) = omega arith in
         record {
-          new = insert (slice_set unit at new) (at + 1) second;
-          pages_are = after_is ∙ ap (λ l. insert l (start + at + 1) second) (set_among new)
-              ∙ ap (λ n. insert (take start pages ++ (slice_set unit at new ++ drop count (drop start pages))) n second) next
-              ∙ insert_inside (take start pages) (slice_set unit at new) (drop count (drop start pages)) start (at + 1) second before_long
-              (omega (arith, at_below, unit_long, length-set unit at new));
-          number = omega (arith, unit_long, halves_number place at unit page order found read_here new second);
-          runs = halves_runs place at unit page order found read_here new second is;
-          dense = halves_dense place at unit page order found read_here new second half rest;
-          spare_are = omega (arith, less);
+          new = insert (slice_set unit at halves.first) (at + 1) halves.second;
+          pages_are = halves.pages_are ∙ ap (λ l. insert l (start + at + 1) halves.second) (set_among halves.first)
+              ∙ ap (λ n. insert (take start pages ++ (slice_set unit at halves.first ++ drop count (drop start pages))) n halves.second) next
+              ∙ insert_inside (take start pages) (slice_set unit at halves.first) (drop count (drop start pages)) start (at + 1) halves.second before_long
+              (omega (arith, at_below, unit_long, length-set unit at halves.first));
+          number = omega (arith, unit_long, halves_number place at unit page order found read_here halves.first halves.second);
+          runs = halves_runs place at unit page order found read_here halves.first halves.second halves.runs_are;
+          dense = halves_dense place at unit page order found read_here halves.first halves.second halves.first_half halves.second_half;
         }
 
-pub cut_nowhere : (place start count : ℕ) (pages spare : List (List Run)) → start + count ≤ length pages → AreInOrder (on_pages (take count (drop start pages)))
-    → position_from (ends_behind place) 0 (take count (drop start pages)) ≡ None → AreCut place start count count pages spare pages spare
-cut_nowhere place start count pages spare within order none = record {
+pub cut_nowhere : (place start count : ℕ) (pages : List (List Run)) → start + count ≤ length pages → AreInOrder (on_pages (take count (drop start pages)))
+    → position_from (ends_behind place) 0 (take count (drop start pages)) ≡ None → AreCut place start count count pages pages
+cut_nowhere place start count pages within order none = record {
   new = take count (drop start pages);
   pages_are = parted pages start count;
   number = omega (arith, length-take count (drop start pages), length-drop start pages, within);
   runs = nothing_cut place (take count (drop start pages)) order none;
   dense = omega arith;
-  spare_are = omega arith;
 }

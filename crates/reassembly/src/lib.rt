@@ -7,6 +7,7 @@ pub mod laws;
 mod marks;
 mod openings;
 mod page;
+mod pages;
 mod pieces;
 mod runs;
 mod segment;

@@ -1,57 +1,51 @@
 //! Pages of runs: some runs of a unit that stand one behind the other.
-ghost use Rattle.std.specs.Prelude.{◌≡◌, ℕ, ◌+◌, ◌<◌, ◌≤◌, ◌++◌, [], ◌∷◌, false, length, map, take, drop, true, Some, IfOk, vec_capacity};
+ghost use Rattle.std.specs.Prelude.{◌≡◌, ℕ, ◌+◌, ◌<◌, ◌≤◌, ◌++◌, [], ◌∷◌, length, map, take, drop, true, Some, IfNone, IfSome, OnSome};
 ghost use Rattle.std.specs.List.{AllByRecursion, list_any, position_from};
 ghost use Rattle.reassembly.specs.declared.runs.Run.{Run};
 ghost use Rattle.reassembly.specs.Pages.{IsApart, ends_behind};
 ghost use Rattle.reassembly.specs.Runs.{AreInOrder, AreJoined, cut, is_across, is_gap, marked, named_in, renamed, unfilled};
 
 use crate::runs::Run;
-use nsap::base::NoMemory;
-use std::alloc::Global;
+use arrayvec::ArrayVec;
 use std::marker::Model;
 
 /// So many runs a page has room for. It never has as many: it is halved then.
 pub(crate) const PAGE: usize = 64;
 
-/// Runs of a unit that stand one behind the other.
+/// Runs of a unit that stand one behind the other. They lie in the page itself, so that it takes no memory of its own.
 ///
 /// A contract sees the list of the runs.
 #[derive(Drop)]
 pub(crate) struct Page {
-    runs: Vec<Run>,
+    runs: ArrayVec<Run, PAGE>,
 }
 
 impl Model for Page {
-    ghost use Rattle.std.specs.Prelude.{◌<◌, ◌≤◌, List, length, vec_capacity};
+    ghost use Rattle.std.specs.Prelude.{◌<◌, List, length};
     ghost use Rattle.reassembly.specs.declared.runs.Run.{Run};
 
     ghost Value = { List Run };
 
     ghost view = { λ p. p.runs.items };
 
-    ghost invariant = { λ p. (length p.runs.items < 64) × (64 ≤ vec_capacity p.runs) };
+    ghost invariant = { λ p. length p.runs.items < 64 };
 }
 
 impl Page {
     /// A page without runs.
-    ///
-    /// # Errors
-    ///
-    /// `NoMemory`.
-    pub(crate) fn new(alloc: Global) -> Result<Page, NoMemory>
-        ensures { IfOk result (λ page. page ≡ []) }
+    pub(crate) fn new() -> Page
+        ensures { result ≡ [] }
     {
-        let Ok(runs) = Vec::with_capacity(alloc, PAGE) else {
-            return Err(NoMemory);
-        };
-        Ok(Page { runs })
+        Page {
+            runs: ArrayVec::new(),
+        }
     }
 
     /// Its runs.
     pub(crate) fn runs(&self) -> &[Run]
         ensures { result.now ≡ self.now }
     {
-        &self.runs
+        self.runs.as_slice()
     }
 
     /// Makes it the first page of a unit with so many places, none of which is filled.
@@ -59,21 +53,18 @@ impl Page {
         ensures { self.new ≡ unfilled places }
     {
         self.runs.clear();
-        let hole = Run {
+        self.runs.push(Run {
             from: 0,
             to: places,
             by: None,
-        };
-        let Ok(()) = self.runs.push(hole) else {
-            unreachable!()
-        };
+        });
     }
 
     /// Whether its last run ends behind a place.
     pub(crate) fn ends_behind(&self, place: u16) -> bool
         ensures { result ≡ ends_behind place self.now }
     {
-        match self.runs.last() {
+        match self.runs().last() {
             Some(run) => place < run.to,
             None => false,
         }
@@ -83,7 +74,7 @@ impl Page {
     pub(crate) fn ends_by(&self, place: u16) -> bool
         ensures { (low high : ℕ) → result ≡ true → AreJoined low high self.now → high ≤ place }
     {
-        match self.runs.last() {
+        match self.runs().last() {
             Some(run) => run.to <= place,
             None => false,
         }
@@ -93,7 +84,7 @@ impl Page {
     pub(crate) fn begins_from(&self, place: u16) -> bool
         ensures { (low high : ℕ) → result ≡ true → AreJoined low high self.now → place ≤ low }
     {
-        match self.runs.first() {
+        match self.runs().first() {
             Some(run) => place <= run.from,
             None => false,
         }
@@ -104,24 +95,23 @@ impl Page {
         requires { AreInOrder self.now }
         ensures { result ≡ list_any (is_gap from to) self.now }
     {
-        has_gap(&self.runs, from, to)
+        has_gap(self.runs(), from, to)
     }
 
-    /// Cuts the hole that a place lies in, so that one begins there. A page that is full then is halved: the second half
-    /// stands on the other page, and it says so.
-    pub(crate) fn cut(&mut self, place: u16, other: &mut Page) -> bool
+    /// Cuts the hole that a place lies in, so that one begins there. A page that is full then is halved, and gives the page
+    /// of its second half.
+    pub(crate) fn cut(&mut self, place: u16) -> Option<Page>
         requires { AreInOrder self.old }
-        ensures whole { result ≡ false → self.new ≡ cut place self.old }
-        ensures halved { result ≡ true → self.new ++ other.new ≡ cut place self.old }
-        ensures first { result ≡ true → 32 ≤ length self.new }
-        ensures second { result ≡ true → 32 ≤ length other.new }
+        ensures whole { IfNone result (self.new ≡ cut place self.old) }
+        ensures halved { IfSome result (λ other. self.new ++ other ≡ cut place self.old) }
+        ensures first { OnSome result (32 ≤ length self.new) }
+        ensures second { IfSome result (λ other. 32 ≤ length other) }
     {
         cut_hole(&mut self.runs, place);
-        if self.runs.len() < PAGE {
-            return false;
+        if !self.runs.is_full() {
+            return None;
         }
-        halve(&mut self.runs, &mut other.runs);
-        true
+        Some(halve(&mut self.runs))
     }
 
     /// Makes the holes from a place to the place before another pieces of a segment.
@@ -129,14 +119,14 @@ impl Page {
         requires { AreInOrder self.old }
         ensures { self.new ≡ map (marked from to by) self.old }
     {
-        mark_holes(&mut self.runs, from, to, by);
+        mark_holes(self.runs.as_mut_slice(), from, to, by);
     }
 
     /// Gives the segments other indices: those that stand at theirs.
     pub(crate) fn rename(&mut self, names: &[u16])
         ensures { self.new ≡ map (renamed names.now) self.old }
     {
-        rename_all(&mut self.runs, names);
+        rename_all(self.runs.as_mut_slice(), names);
     }
 }
 
@@ -199,39 +189,32 @@ fn is_gap(run: &Run, from: u16, to: u16) -> bool
 }
 
 /// Cuts the hole that a place lies in.
-fn cut_hole(runs: &mut Vec<Run>, place: u16)
-    requires room { length runs.old.items < vec_capacity runs.old }
+fn cut_hole(runs: &mut ArrayVec<Run, PAGE>, place: u16)
+    requires room { length runs.old.items < 64 }
     requires order { AreInOrder runs.old.items }
-    ensures items { runs.new.items ≡ cut place runs.old.items }
-    ensures capacity { vec_capacity runs.new ≡ vec_capacity runs.old }
+    ensures { runs.new.items ≡ cut place runs.old.items }
 {
-    let Some(at) = hole_across(runs, place) else {
+    let Some(at) = hole_across(runs.as_slice(), place) else {
         return;
     };
-    let run = runs[at];
-    runs[at] = Run { to: place, ..run };
-    let Ok(()) = runs.insert(at + 1, Run { from: place, ..run }) else {
-        unreachable!()
-    };
+    let run = runs.as_slice()[at];
+    runs.as_mut_slice()[at] = Run { to: place, ..run };
+    runs.insert(at + 1, Run { from: place, ..run });
 }
 
-/// Moves the second half of the runs of a full page to another.
-fn halve(runs: &mut Vec<Run>, others: &mut Vec<Run>)
-    requires full { length runs.old.items ≡ 64 }
-    requires room { 64 ≤ vec_capacity others.old }
-    ensures items { runs.new.items ++ others.new.items ≡ runs.old.items }
+/// Takes the second half of the runs of a full page out.
+fn halve(runs: &mut ArrayVec<Run, PAGE>) -> Page
+    requires { length runs.old.items ≡ 64 }
+    ensures items { runs.new.items ++ result ≡ runs.old.items }
     ensures first { length runs.new.items ≡ 32 }
-    ensures second { length others.new.items ≡ 32 }
-    ensures capacity { vec_capacity runs.new ≡ vec_capacity runs.old }
-    ensures others_capacity { vec_capacity others.old ≤ vec_capacity others.new }
+    ensures second { length result ≡ 32 }
 {
-    others.clear();
-    for at in PAGE / 2..PAGE {
-        let Ok(()) = others.push(runs[at]) else {
-            unreachable!()
-        };
-    }
+    let mut others = ArrayVec::new();
+    let Ok(()) = others.try_extend_from_slice(&runs.as_slice()[PAGE / 2..]) else {
+        unreachable!()
+    };
     runs.truncate(PAGE / 2);
+    Page { runs: others }
 }
 
 /// The index of the hole that a place lies in, and doesn't begin.

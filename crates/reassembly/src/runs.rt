@@ -1,19 +1,20 @@
 //! Runs of places of a unit's data: holes, and pieces that kept segments fill. They stand on pages, so that a segment moves
 //! few of them; the pages of all open units stand in one list, those of one unit together.
-ghost use Rattle.std.specs.Prelude.{◌≡◌, ◌+◌, ◌<◌, ◌≤◌, ◌^◌, List, [], ◌∷◌, ◌++◌, drop, length, map, sum, take, IfOk, MatchOption, Some, slice_get, slice_set, vec_capacity};
+ghost use Rattle.std.specs.Prelude.{◌≡◌, ◌+◌, ◌-◌, ◌<◌, ◌≤◌, ◌^◌, List, [], ◌∷◌, ◌++◌, drop, length, map, sum, take, IfOk, MatchOption, Some, slice_get, slice_set};
 ghost use Rattle.std.specs.List.{AllByRecursion, list_any, position_from, remove};
 ghost use Rattle.reassembly.specs.declared.runs.Run.{Run};
 ghost use Rattle.reassembly.specs.Pages.{AreCut, ends_behind, on_pages};
 ghost use Rattle.reassembly.specs.Runs.{AreInOrder, cut, filled, is_gap, marked, renamed, total_runs, unfilled};
 
 use crate::counts::Counts;
-use crate::page::{PAGE, Page, has_gap as has_gap_in};
+use crate::page::{PAGE, has_gap as has_gap_in};
+use crate::pages::{Pages, PagesPart};
 use nsap::base::NoMemory;
 use std::alloc::Global;
 use std::marker::Model;
 
 /// Places of a unit's data that stand side by side: a hole, or a piece that one kept segment fills.
-#[derive(Clone, Copy)]
+#[derive(Clone, Copy, Default)]
 pub(crate) struct Run {
     pub(crate) from: u16,
     /// The place behind the last one.
@@ -30,15 +31,13 @@ pub(crate) struct Run {
 pub(crate) struct Runs {
     /// How many pages each unit has.
     counts: Counts,
-    pages: Vec<Page>,
-    /// Pages that no unit has.
-    spare: Vec<Page>,
+    pages: Pages,
     slots: usize,
     room: usize,
 }
 
 impl Model for Runs {
-    ghost use Rattle.std.specs.Prelude.{◌≤◌, map, min, vec_capacity};
+    ghost use Rattle.std.specs.Prelude.{◌≤◌, map};
     ghost use Rattle.reassembly.specs.Pages.{ArePages, groups_of, on_pages};
     ghost use Rattle.reassembly.specs.Runs.{RunsState};
 
@@ -46,8 +45,7 @@ impl Model for Runs {
 
     ghost view = { λ r. record { groups = map on_pages (groups_of r.counts.items r.pages.items); slots = r.slots; room = r.room } };
 
-    ghost invariant = { λ r. ArePages r.counts.items r.pages.items r.spare.items r.slots r.room (min (vec_capacity r.pages) (vec_capacity r.spare))
-        × (r.slots ≤ r.counts.room) };
+    ghost invariant = { λ r. ArePages r.counts.items r.pages.items r.slots r.room r.pages.most × (r.slots ≤ r.counts.room) };
 }
 
 impl Runs {
@@ -63,14 +61,10 @@ impl Runs {
         // Each page of a unit that has more than one is at least half full.
         let most = slots + room / (PAGE / 2) + 2;
         let counts = Counts::new(alloc, slots)?;
-        let Ok(pages) = Vec::with_capacity(alloc, most) else {
-            return Err(NoMemory);
-        };
-        let spare = blank_pages(alloc, most)?;
+        let pages = Pages::new(alloc, most)?;
         Ok(Runs {
             counts,
             pages,
-            spare,
             slots,
             room,
         })
@@ -84,14 +78,8 @@ impl Runs {
         ensures slots { self.old.slots ≤ self.new.slots }
         ensures room { self.old.room ≤ self.new.room }
     {
-        let Some(mut page) = self.spare.pop() else {
-            unreachable!()
-        };
-        page.open(places);
         self.counts.push(self.pages.len(), 1);
-        let Ok(()) = self.pages.push(page) else {
-            unreachable!()
-        };
+        self.pages.open(places);
     }
 
     /// The runs of a unit, one behind the other.
@@ -102,7 +90,7 @@ impl Runs {
         let start = self.counts.start_at(slot);
         Group {
             first: &[],
-            others: &self.pages[start..start + self.counts.count_at(slot)],
+            others: self.pages.part(start, self.counts.count_at(slot)),
         }
     }
 
@@ -132,13 +120,7 @@ impl Runs {
         ensures room { self.old.room ≤ self.new.room }
     {
         let start = self.counts.start_at(slot);
-        let count = cut_pages(
-            &mut self.pages,
-            &mut self.spare,
-            start,
-            self.counts.count_at(slot),
-            place,
-        );
+        let count = cut_pages(&mut self.pages, start, self.counts.count_at(slot), place);
         self.counts.set(slot, count);
     }
 
@@ -152,8 +134,8 @@ impl Runs {
         ensures room { self.old.room ≤ self.new.room }
     {
         let start = self.counts.start_at(slot);
-        let end = start + self.counts.count_at(slot);
-        mark_on(&mut self.pages[start..end], from, to, by);
+        let count = self.counts.count_at(slot);
+        mark_on(&mut self.pages, start, count, from, to, by);
     }
 
     /// Takes the runs of a unit out.
@@ -165,7 +147,7 @@ impl Runs {
     {
         let start = self.counts.start_at(slot);
         let count = self.counts.remove(slot);
-        take_pages(&mut self.pages, &mut self.spare, start, count);
+        take_pages(&mut self.pages, start, count);
     }
 
     /// Gives the segments other indices: those that stand at theirs.
@@ -185,7 +167,7 @@ impl Runs {
     {
         self.counts.clear();
         let count = self.pages.len();
-        take_pages(&mut self.pages, &mut self.spare, 0, count);
+        take_pages(&mut self.pages, 0, count);
     }
 }
 
@@ -196,7 +178,7 @@ impl Runs {
 pub(crate) struct Group<'a> {
     /// What is left of the runs of a page.
     first: &'a [Run],
-    others: &'a [Page],
+    others: PagesPart<'a>,
 }
 
 impl<'a> Model for Group<'a> {
@@ -206,7 +188,7 @@ impl<'a> Model for Group<'a> {
 
     ghost Value = { List Run };
 
-    ghost view = { λ g. g.first.now ++ on_pages g.others.now };
+    ghost view = { λ g. g.first.now ++ on_pages g.others };
 }
 
 impl<'a> Group<'a> {
@@ -219,11 +201,12 @@ impl<'a> Group<'a> {
                 self.first = rest;
                 return Some(*run);
             }
-            let Some((page, others)) = self.others.split_first() else {
+            let count = self.others.len();
+            if count == 0 {
                 return None;
-            };
-            self.first = page.runs();
-            self.others = others;
+            }
+            self.first = self.others.page(0).runs();
+            self.others = self.others.part(1, count);
         }
     }
 }
@@ -233,11 +216,11 @@ pub(crate) fn has_gap(runs: &Group<'_>, from: u16, to: u16) -> bool
     requires { AreInOrder runs.now }
     ensures { result ≡ list_any (is_gap from to) runs.now }
 {
-    has_gap_in(runs.first, from, to) || has_gap_on(runs.others, from, to)
+    has_gap_in(runs.first, from, to) || has_gap_on(&runs.others, from, to)
 }
 
 /// The same of runs on pages.
-fn has_gap_on(pages: &[Page], from: u16, to: u16) -> bool
+fn has_gap_on(pages: &PagesPart<'_>, from: u16, to: u16) -> bool
     requires { AreInOrder (on_pages pages.now) }
     ensures { result ≡ list_any (is_gap from to) (on_pages pages.now) }
 {
@@ -246,17 +229,17 @@ fn has_gap_on(pages: &[Page], from: u16, to: u16) -> bool
         return have_gap(pages, from, to);
     }
     let last = begun_before(pages, to);
-    let first = ended_by(&pages[..last], from);
-    have_gap(&pages[first..last], from, to)
+    let first = ended_by(&pages.front(last), from);
+    have_gap(&pages.part(first, last), from, to)
 }
 
 /// The same, by a walk over the pages.
-fn have_gap(pages: &[Page], from: u16, to: u16) -> bool
+fn have_gap(pages: &PagesPart<'_>, from: u16, to: u16) -> bool
     requires { AreInOrder (on_pages pages.now) }
     ensures { result ≡ list_any (is_gap from to) (on_pages pages.now) }
 {
-    for page in pages {
-        if page.has_gap(from, to) {
+    for at in 0..pages.len() {
+        if pages.page(at).has_gap(from, to) {
             return true;
         }
     }
@@ -279,35 +262,19 @@ pub(crate) fn has_hole(runs: &Group<'_>, from: u16, to: u16, places: u16) -> boo
     has_gap(runs, 0, places)
 }
 
-/// So many pages without runs.
-fn blank_pages(alloc: Global, count: usize) -> Result<Vec<Page>, NoMemory>
-    ensures { IfOk result (λ pages. (length pages.items ≡ count) × (count ≤ vec_capacity pages)) }
-{
-    let Ok(mut pages) = Vec::with_capacity(alloc, count) else {
-        return Err(NoMemory);
-    };
-    for _ in 0..count {
-        let page = Page::new(alloc)?;
-        let Ok(()) = pages.push(page) else {
-            return Err(NoMemory);
-        };
-    }
-    Ok(pages)
-}
-
 /// Of how many pages, the first ones, it is plain that all their runs end by a place.
-fn ended_by(pages: &[Page], place: u16) -> usize
+fn ended_by(pages: &PagesPart<'_>, place: u16) -> usize
     requires { AreInOrder (on_pages pages.now) }
     ensures within { result ≤ length pages.now }
     ensures ended { AllByRecursion (λ run. run.to ≤ place) (on_pages (take result pages.now)) }
 {
     // Most often the place is on the last of them.
-    if pages.len() > 1 && pages[pages.len() - 2].ends_by(place) {
+    if pages.len() > 1 && pages.page(pages.len() - 2).ends_by(place) {
         return pages.len() - 1;
     }
-    let count = pages.partition_point(|page| page.ends_by(place));
+    let count = pages.ended_by(place);
     // What was found is compared: a page without runs would lead the search astray.
-    if count > 0 && pages[count - 1].ends_by(place) {
+    if count > 0 && pages.page(count - 1).ends_by(place) {
         count
     } else {
         0
@@ -315,19 +282,16 @@ fn ended_by(pages: &[Page], place: u16) -> usize
 }
 
 /// Behind how many pages, the first ones, it is plain that all runs begin from a place on.
-fn begun_before(pages: &[Page], place: u16) -> usize
+fn begun_before(pages: &PagesPart<'_>, place: u16) -> usize
     requires { AreInOrder (on_pages pages.now) }
     ensures within { result ≤ length pages.now }
     ensures others { AllByRecursion (λ run. place ≤ run.from) (on_pages (drop result pages.now)) }
 {
-    let Some(last) = pages.last() else {
-        return 0;
-    };
-    if !last.begins_from(place) {
+    if pages.len() == 0 || !pages.page(pages.len() - 1).begins_from(place) {
         return pages.len();
     }
-    let count = pages.partition_point(|page| !page.begins_from(place));
-    if count < pages.len() && pages[count].begins_from(place) {
+    let count = pages.begun_before(place);
+    if count < pages.len() && pages.page(count).begins_from(place) {
         count
     } else {
         pages.len()
@@ -335,7 +299,7 @@ fn begun_before(pages: &[Page], place: u16) -> usize
 }
 
 /// The index of the page on which the first run stands that ends behind a place.
-fn page_of(pages: &[Page], place: u16) -> Option<usize>
+fn page_of(pages: &PagesPart<'_>, place: u16) -> Option<usize>
     requires { AreInOrder (on_pages pages.now) }
     ensures { result ≡ position_from (ends_behind place) 0 pages.now }
 {
@@ -343,101 +307,95 @@ fn page_of(pages: &[Page], place: u16) -> Option<usize>
         return first_behind(pages, place);
     }
     let first = ended_by(pages, place);
-    match first_behind(&pages[first..], place) {
+    match first_behind(&pages.part(first, pages.len()), place) {
         Some(at) => Some(first + at),
         None => None,
     }
 }
 
 /// The same, by a walk over the pages.
-fn first_behind(pages: &[Page], place: u16) -> Option<usize>
+fn first_behind(pages: &PagesPart<'_>, place: u16) -> Option<usize>
     ensures { result ≡ position_from (ends_behind place) 0 pages.now }
 {
-    pages.iter().position(|page| page.ends_behind(place))
+    for at in 0..pages.len() {
+        if pages.page(at).ends_behind(place) {
+            return Some(at);
+        }
+    }
+    None
 }
 
 /// Cuts the hole that a place lies in, where it stands on one of `count` pages from `start` on; tells how many these are
 /// then.
-fn cut_pages(
-    pages: &mut Vec<Page>,
-    spare: &mut Vec<Page>,
-    start: usize,
-    count: usize,
-    place: u16,
-) -> usize
+fn cut_pages(pages: &mut Pages, start: usize, count: usize, place: u16) -> usize
     requires within { start + count ≤ length pages.old.items }
     requires order { AreInOrder (on_pages (take count (drop start pages.old.items))) }
-    requires spare { 0 < length spare.old.items }
-    requires room { length pages.old.items + length spare.old.items ≤ vec_capacity pages.old }
-    requires spare_room { length pages.old.items + length spare.old.items ≤ vec_capacity spare.old }
-    ensures cut { AreCut place start count result pages.old.items spare.old.items pages.new.items spare.new.items }
-    ensures capacity { vec_capacity pages.old ≤ vec_capacity pages.new }
-    ensures spare_capacity { vec_capacity spare.old ≤ vec_capacity spare.new }
+    requires few { length pages.old.items < 2 ^ 64 }
+    requires room { length pages.old.items < pages.old.most }
+    ensures cut { AreCut place start count result pages.old.items pages.new.items }
+    ensures counted { result ≤ count + 1 }
+    ensures most { pages.new.most ≡ pages.old.most }
 {
-    let Some(at) = page_of(&pages[start..start + count], place) else {
+    let Some(at) = page_of(&pages.part(start, count), place) else {
         return count;
     };
-    let Some(mut other) = spare.pop() else {
-        unreachable!()
-    };
-    if pages[start + at].cut(place, &mut other) {
-        let Ok(()) = pages.insert(start + at + 1, other) else {
-            unreachable!()
-        };
-        return count + 1;
+    if pages.cut(start + at, place) {
+        count + 1
+    } else {
+        count
     }
-    let Ok(()) = spare.push(other) else {
-        unreachable!()
-    };
-    count
 }
 
-/// Makes each hole from a place to the place before another a piece of a segment.
-fn mark_on(pages: &mut [Page], from: u16, to: u16, by: u16)
-    requires { AreInOrder (on_pages pages.old) }
-    ensures { pages.new ≡ map (map (marked from to by)) pages.old }
+/// Makes each hole on `count` pages from `start` on, from a place to the place before another, a piece of a segment.
+fn mark_on(pages: &mut Pages, start: usize, count: usize, from: u16, to: u16, by: u16)
+    requires within { start + count ≤ length pages.old.items }
+    requires few { length pages.old.items < 2 ^ 64 }
+    requires order { AreInOrder (on_pages (take count (drop start pages.old.items))) }
+    ensures items { pages.new.items ≡ take start pages.old.items
+        ++ (map (map (marked from to by)) (take count (drop start pages.old.items)) ++ drop count (drop start pages.old.items)) }
+    ensures most { pages.new.most ≡ pages.old.most }
 {
-    if pages.len() < 2 {
-        mark_pages(pages, from, to, by);
+    if count < 2 {
+        mark_pages(pages, start, count, from, to, by);
         return;
     }
-    let last = begun_before(pages, to);
-    let first = ended_by(&pages[..last], from);
-    mark_pages(&mut pages[first..last], from, to, by);
+    let unit = pages.part(start, count);
+    let last = begun_before(&unit, to);
+    let first = ended_by(&unit.front(last), from);
+    mark_pages(pages, start + first, last - first, from, to, by);
 }
 
 /// The same, by a walk over the pages.
-fn mark_pages(pages: &mut [Page], from: u16, to: u16, by: u16)
-    requires { AreInOrder (on_pages pages.old) }
-    ensures { pages.new ≡ map (map (marked from to by)) pages.old }
+fn mark_pages(pages: &mut Pages, start: usize, count: usize, from: u16, to: u16, by: u16)
+    requires within { start + count ≤ length pages.old.items }
+    requires few { length pages.old.items < 2 ^ 64 }
+    requires order { AreInOrder (on_pages (take count (drop start pages.old.items))) }
+    ensures items { pages.new.items ≡ take start pages.old.items
+        ++ (map (map (marked from to by)) (take count (drop start pages.old.items)) ++ drop count (drop start pages.old.items)) }
+    ensures most { pages.new.most ≡ pages.old.most }
 {
-    for page in pages.iter_mut() {
-        page.mark(from, to, by);
+    for at in start..start + count {
+        pages.mark(at, from, to, by);
     }
 }
 
 /// Gives the segment of each run another index.
-fn rename_pages(pages: &mut [Page], names: &[u16])
-    ensures { pages.new ≡ map (map (renamed names.now)) pages.old }
+fn rename_pages(pages: &mut Pages, names: &[u16])
+    ensures items { pages.new.items ≡ map (map (renamed names.now)) pages.old.items }
+    ensures most { pages.new.most ≡ pages.old.most }
 {
-    for page in pages.iter_mut() {
-        page.rename(names);
+    for at in 0..pages.len() {
+        pages.rename(at, names);
     }
 }
 
-/// Takes `count` pages from `start` on out. They are spare then.
-fn take_pages(pages: &mut Vec<Page>, spare: &mut Vec<Page>, start: usize, count: usize)
-    requires within { start + count ≤ length pages.old.items }
-    requires room { length pages.old.items + length spare.old.items ≤ vec_capacity spare.old }
-    ensures pages { pages.new.items ≡ take start pages.old.items ++ drop (start + count) pages.old.items }
-    ensures spare { length spare.new.items ≡ length spare.old.items + count }
-    ensures capacity { vec_capacity pages.new ≡ vec_capacity pages.old }
-    ensures spare_capacity { vec_capacity spare.old ≤ vec_capacity spare.new }
+/// Takes `count` pages from `start` on out.
+fn take_pages(pages: &mut Pages, start: usize, count: usize)
+    requires { start + count ≤ length pages.old.items }
+    ensures items { pages.new.items ≡ take start pages.old.items ++ drop (start + count) pages.old.items }
+    ensures most { pages.new.most ≡ pages.old.most }
 {
     for _ in 0..count {
-        let page = pages.remove(start);
-        let Ok(()) = spare.push(page) else {
-            unreachable!()
-        };
+        pages.remove(start);
     }
 }

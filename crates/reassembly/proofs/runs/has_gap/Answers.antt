@@ -7,8 +7,8 @@ use Rattle.reassembly.proofs.runs.has_gap.Goals as goal
 
 pub has_gap-requires : goal.has_gap-requires
 has_gap-requires c =
-    first_order c.runs.inside.first.now (on_pages c.runs.inside.others.now) (subst AreInOrder (sym c.runs.view_is) c.requires)
+    first_order c.runs.inside.first.now (on_pages c.runs.inside.others) (subst AreInOrder (sym c.runs.view_is) c.requires)
 
 pub has_gap_on-requires : goal.has_gap_on-requires
 has_gap_on-requires c =
-    rest_order c.runs.inside.first.now (on_pages c.runs.inside.others.now) (subst AreInOrder (sym c.runs.view_is) c.requires)
+    rest_order c.runs.inside.first.now (on_pages c.runs.inside.others) (subst AreInOrder (sym c.runs.view_is) c.requires)

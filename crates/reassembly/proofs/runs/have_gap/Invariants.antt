@@ -5,5 +5,5 @@ use Rattle.reassembly.specs.Pages.{on_pages}
 use Rattle.reassembly.specs.Runs.{is_gap}
 use Rattle.reassembly.proofs.runs.have_gap.Given as goal
 
-abbrev pub invariant-loop-page : goal.invariant-loop-page
-invariant-loop-page l = list_any (is_gap l.from l.to) (on_pages (take l.page-index l.pages)) ≡ false
+abbrev pub invariant-loop-at : goal.invariant-loop-at
+invariant-loop-at l = list_any (is_gap l.from l.to) (on_pages (take l.at l.pages)) ≡ false

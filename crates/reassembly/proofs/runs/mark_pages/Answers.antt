@@ -1,23 +1,44 @@
 -- One page more is marked.
-use Rattle.std.proofs.Common.{◌<◌, arith, length, map, refl, subst}
-use Rattle.std.proofs.lemmas.List.Edits.{map_over_more}
-use Rattle.std.proofs.lemmas.List.{get_or_default}
-use Rattle.reassembly.specs.Runs.{AreInOrder, marked}
-use Rattle.reassembly.proofs.Paged.{still_there, page_order}
+use Rattle.std.proofs.Common.{[], ◌≡◌, ◌++◌, ◌∙◌, ◌-◌, ◌<◌, ap, arith, drop, get_or, length, map, refl, take}
+use Rattle.reassembly.specs.Runs.{marked}
+use Rattle.reassembly.proofs.Paged.{as_long, front_there, mapped_more, none_mapped, not_mapped, page_order}
 use Rattle.reassembly.proofs.runs.mark_pages.Goals as goal
 
-pub loop-page-init : goal.loop-page-init
-loop-page-init c = refl
+pub loop-at-init : goal.loop-at-init
+loop-at-init c = record { items = none_mapped (map (marked c.args.from c.args.to c.args.by)) c.args.pages.now.items c.args.start; most = refl }
 
-pub mark-requires : goal.mark-requires
-mark-requires c =
-    let within : c.loop-page.page-index < length c.args.pages.now = c.loop-page-test.true in
-    subst AreInOrder c.page-item.is (page_order c.args.pages.now c.loop-page.page-index c.page-item.result c.requires
-    (still_there (map (marked c.args.from c.args.to c.args.by)) c.args.pages.now c.loop-page.pages c.loop-page.page-index c.page-item.result within
-    c.loop-page.invariant (omega (arith, c.loop-page.auto.pages)) c.page-item.is))
+pub mark-requires-clause-within : goal.mark-requires-clause-within
+mark-requires-clause-within c =
+    let f = map (marked c.args.from c.args.to c.args.by) in
+    let items = c.args.pages.now.items in
+    let within : c.loop-at.at < length items = omega (arith, c.loop-at-test.true, c.requires.within) in
+    omega (arith, within, as_long f [] items c.loop-at.pages.items c.args.start c.loop-at.at c.loop-at.auto.at within c.loop-at.invariant.items)
 
-pub loop-page-preserved : goal.loop-page-preserved
-loop-page-preserved c =
-    let within : c.loop-page.page-index < length c.args.pages.now = c.loop-page-test.true in
-    rw c.mark.ensures (map_over_more (map (marked c.args.from c.args.to c.args.by)) c.args.pages.now c.loop-page.pages c.loop-page.page-index _ within c.loop-page.invariant
-    (get_or_default c.loop-page.pages c.loop-page.page-index _ _ (omega (arith, c.loop-page.auto.pages))))
+pub mark-requires-clause-order : goal.mark-requires-clause-order
+mark-requires-clause-order c =
+    let f = map (marked c.args.from c.args.to c.args.by) in
+    let items = c.args.pages.now.items in
+    let page = get_or c.loop-at.pages.items c.loop-at.at [] in
+    let place = c.loop-at.at - c.args.start in
+    let within : c.loop-at.at < length items = omega (arith, c.loop-at-test.true, c.requires.within) in
+    let there = not_mapped f [] items c.loop-at.pages.items c.args.start c.loop-at.at c.loop-at.auto.at within c.loop-at.invariant.items in
+    page_order (take c.args.count (drop c.args.start items)) place page c.requires.order
+    (front_there (drop c.args.start items) place c.args.count page there (omega (arith, c.loop-at-test.true, c.loop-at.auto.at)))
+
+pub loop-at-preserved : goal.loop-at-preserved
+loop-at-preserved c =
+    let f = map (marked c.args.from c.args.to c.args.by) in
+    let items = c.args.pages.now.items in
+    let within : c.loop-at.at < length items = omega (arith, c.loop-at-test.true, c.requires.within) in
+    record {
+      items = c.mark.ensures.items ∙ mapped_more f [] items c.loop-at.pages.items c.args.start c.loop-at.at c.loop-at.auto.at within c.loop-at.invariant.items;
+      most = c.mark.ensures.most ∙ c.loop-at.invariant.most;
+    }
+
+pub returns-clause-items : goal.returns-clause-items
+returns-clause-items c =
+    let start = c.args.start in
+    let items = c.args.pages.now.items in
+    let all : c.loop-at.at - start ≡ c.args.count = omega (arith, c.loop-at-test.false, c.loop-at.auto.at, c.loop-at.auto.at-end) in
+    c.loop-at.invariant.items
+    ∙ ap (λ n. take start items ++ (map (map (marked c.args.from c.args.to c.args.by)) (take n (drop start items)) ++ drop n (drop start items))) all

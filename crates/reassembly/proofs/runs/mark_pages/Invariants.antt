@@ -1,7 +1,12 @@
 -- The pages so far are marked.
-use Rattle.std.proofs.Common.{◌≡◌, ◌++◌, map, take, drop}
+use Rattle.std.proofs.Common.{◌≡◌, ◌-◌, ◌++◌, map, take, drop}
 use Rattle.reassembly.specs.Runs.{marked}
 use Rattle.reassembly.proofs.runs.mark_pages.Given as goal
 
-abbrev pub invariant-loop-page : goal.invariant-loop-page
-invariant-loop-page l = l.pages ≡ map (map (marked l.from l.to l.by)) (take l.page-index l.initial.pages) ++ drop l.page-index l.initial.pages
+pub record AreMarked (l : goal.Live-loop-at) : Type 0 where
+  pub items : l.pages.items ≡ take l.start l.initial.pages.items
+      ++ (map (map (marked l.from l.to l.by)) (take (l.at - l.start) (drop l.start l.initial.pages.items)) ++ drop (l.at - l.start) (drop l.start l.initial.pages.items))
+  pub most : l.pages.most ≡ l.initial.pages.most
+
+abbrev pub invariant-loop-at : goal.invariant-loop-at
+invariant-loop-at l = AreMarked l

@@ -3,5 +3,9 @@ use Rattle.std.proofs.Common.{◌≡◌, ◌++◌, map, take, drop}
 use Rattle.reassembly.specs.Runs.{renamed}
 use Rattle.reassembly.proofs.runs.rename_pages.Given as goal
 
-abbrev pub invariant-loop-page : goal.invariant-loop-page
-invariant-loop-page l = l.pages ≡ map (map (renamed l.names)) (take l.page-index l.initial.pages) ++ drop l.page-index l.initial.pages
+pub record AreRenamed (l : goal.Live-loop-at) : Type 0 where
+  pub items : l.pages.items ≡ map (map (renamed l.names)) (take l.at l.initial.pages.items) ++ drop l.at l.initial.pages.items
+  pub most : l.pages.most ≡ l.initial.pages.most
+
+abbrev pub invariant-loop-at : goal.invariant-loop-at
+invariant-loop-at l = AreRenamed l

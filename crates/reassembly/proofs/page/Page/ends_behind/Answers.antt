@@ -7,6 +7,6 @@ use Rattle.reassembly.proofs.page.Page.ends_behind.Goals as goal
 
 pub returns-in-Some : goal.returns-in-Some
 returns-in-Some c =
-    let runs = c.deref.result.now in
+    let runs = c.runs.result.now in
     let is : slice_get runs (length runs - 1) ≡ Some c.in-Some.run'.now = sym c.last.ensures.value ∙ ap option_copied c.in-Some.is in
-    sym (ap (ends_behind c.args.place) (sym (c.deref.ensures.value ∙ c.self.view_is)) ∙ ends_at c.args.place runs c.in-Some.run'.now is)
+    sym (ap (ends_behind c.args.place) (sym c.runs.ensures) ∙ ends_at c.args.place runs c.in-Some.run'.now is)

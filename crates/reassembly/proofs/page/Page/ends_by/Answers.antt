@@ -7,9 +7,9 @@ use Rattle.reassembly.proofs.page.Page.ends_by.Goals as goal
 
 pub returns-in-Some : goal.returns-in-Some
 returns-in-Some c low high ends joined =
-    let runs = c.deref.result.now in
+    let runs = c.runs.result.now in
     let is : slice_get runs (length runs - 1) ≡ Some c.in-Some.run'.now = sym c.last.ensures.value ∙ ap option_copied c.in-Some.is in
-    let same = c.deref.ensures.value ∙ c.self.view_is in
+    let same = c.runs.ensures in
     omega (
       arith,
       last_to low high c.args.self.now c.in-Some.run'.now joined (ap (λ l. slice_get l (length l - 1)) (sym same) ∙ is),

@@ -4,7 +4,7 @@ use Rattle.reassembly.specs.Pages.{on_pages}
 use Rattle.reassembly.proofs.runs.Group.next.Given as goal
 
 abbrev pub invariant-loop-run : goal.invariant-loop-run
-invariant-loop-run l = l.self-inside.first.now ++ on_pages l.self-inside.others.now ≡ l.initial.self-inside.first.now ++ on_pages l.initial.self-inside.others.now
+invariant-loop-run l = l.self-inside.first.now ++ on_pages l.self-inside.others ≡ l.initial.self-inside.first.now ++ on_pages l.initial.self-inside.others
 
 abbrev pub decreases-loop-run : goal.decreases-loop-run
-decreases-loop-run l = length l.self-inside.others.now
+decreases-loop-run l = length l.self-inside.others

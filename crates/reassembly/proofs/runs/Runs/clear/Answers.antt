@@ -8,10 +8,9 @@ use Rattle.reassembly.proofs.runs.Runs.clear.Goals as goal
 pub invariant_of-self : goal.invariant_of-self
 invariant_of-self c =
     let t = c.self.inside in (
-      pages_cleared t.counts.items t.pages.items t.spare.items _ _ _ c.self.invariant.0 _ _ _ _
-          (omega (arith, ap length c.take_pages.ensures.pages, length-drop (0 + c.len-count.result) t.pages.items, c.len-count.ensures)) c.clear.ensures.items
-          (omega (arith, c.take_pages.ensures.spare, c.len-count.ensures))
-          (omega (arith, c.take_pages.ensures.capacity, c.take_pages.ensures.spare_capacity)),
+      pages_cleared t.counts.items t.pages.items _ _ _ c.self.invariant.0 _ _ _
+          (omega (arith, ap length c.take_pages.ensures.items, length-drop (0 + c.len-count.result) t.pages.items, c.len-count.ensures))
+          c.clear.ensures.items c.take_pages.ensures.most,
       omega (arith, c.self.invariant.1, c.clear.ensures.room),
     )
 

@@ -1,5 +1,5 @@
 -- The pages of a unit are a part of the list.
-use Rattle.std.proofs.Common.{◌≡◌, ◌+◌, ◌-◌, length, take, drop, Some, ap, sym, ◌∙◌, arith}
+use Rattle.std.proofs.Common.{Some, ap, sym, ◌∙◌, arith}
 use Rattle.std.proofs.lemmas.Option.{get_or_from_slice_get}
 use Rattle.reassembly.specs.Pages.{on_pages}
 use Rattle.reassembly.proofs.Groups.{group_there, inside, fits}
@@ -17,29 +17,17 @@ count_at-requires c =
     let within = inside t.counts.items t.pages.items _ (ap (λ v. v.groups) c.self.view_is) c.self.invariant.0.number c.args.slot c.requires in
     omega (arith, within)
 
-pub overflow_add-result : goal.overflow_add-result
-overflow_add-result c =
+pub part-requires : goal.part-requires
+part-requires c =
     let t = c.self.inside in
-    let within = inside t.counts.items t.pages.items _ (ap (λ v. v.groups) c.self.view_is) c.self.invariant.0.number c.args.slot c.requires in
     let start = c.start_at-start.ensures in
     let count = sym (get_or_from_slice_get t.counts.items c.args.slot c.count_at.result 0 c.count_at.ensures) in
-    omega (arith, fits t.counts.items t.pages.items _ (ap (λ v. v.groups) c.self.view_is) c.self.invariant.0.number c.args.slot c.requires _ _ start count, c.deref.ensures.len)
-
-pub slice_bounds-result-end-2 : goal.slice_bounds-result-end-2
-slice_bounds-result-end-2 c =
-    let t = c.self.inside in
-    let within = inside t.counts.items t.pages.items _ (ap (λ v. v.groups) c.self.view_is) c.self.invariant.0.number c.args.slot c.requires in
-    let start = c.start_at-start.ensures in
-    let count = sym (get_or_from_slice_get t.counts.items c.args.slot c.count_at.result 0 c.count_at.ensures) in
-    omega (arith, fits t.counts.items t.pages.items _ (ap (λ v. v.groups) c.self.view_is) c.self.invariant.0.number c.args.slot c.requires _ _ start count, ap length c.deref.ensures.value)
+    omega (arith, fits t.counts.items t.pages.items _ (ap (λ v. v.groups) c.self.view_is) c.self.invariant.0.number c.args.slot c.requires _ _ start count)
 
 pub returns : goal.returns
 returns c =
     let t = c.self.inside in
-    let within = inside t.counts.items t.pages.items _ (ap (λ v. v.groups) c.self.view_is) c.self.invariant.0.number c.args.slot c.requires in
     let start = c.start_at-start.ensures in
     let count = sym (get_or_from_slice_get t.counts.items c.args.slot c.count_at.result 0 c.count_at.ensures) in
-    let there = group_there t.counts.items t.pages.items _ (ap (λ v. v.groups) c.self.view_is) c.self.invariant.0.number c.args.slot c.requires _ _ start count in
-    let size : c.start_at-start.result + c.count_at.result - c.start_at-start.result ≡ c.count_at.result = omega arith in
-    there ∙ ap (λ l. Some (on_pages (take c.count_at.result (drop c.start_at-start.result l)))) (sym c.deref.ensures.value)
-    ∙ ap (λ n. Some (on_pages (take n (drop c.start_at-start.result c.deref.result.now)))) (sym size)
+    group_there t.counts.items t.pages.items _ (ap (λ v. v.groups) c.self.view_is) c.self.invariant.0.number c.args.slot c.requires _ _ start count
+    ∙ ap (λ l. Some (on_pages l)) (sym c.part.ensures)

@@ -16,8 +16,8 @@ remove-count-requires-clause-unit c =
     let within = inside t.counts.items t.pages.items _ (ap (λ v. v.groups) c.self.view_is) c.self.invariant.0.number c.args.slot c.requires in
     omega (arith, within)
 
-pub take_pages-requires-clause-within : goal.take_pages-requires-clause-within
-take_pages-requires-clause-within c =
+pub take_pages-requires : goal.take_pages-requires
+take_pages-requires c =
     let t = c.self.inside in
     let within = inside t.counts.items t.pages.items _ (ap (λ v. v.groups) c.self.view_is) c.self.invariant.0.number c.args.slot c.requires in
     let start = c.start_at-start.ensures in
@@ -30,9 +30,8 @@ invariant_of-self c =
     let within = inside t.counts.items t.pages.items _ (ap (λ v. v.groups) c.self.view_is) c.self.invariant.0.number c.args.slot c.requires in
     let start = c.start_at-start.ensures in
     let count = sym (get_or_from_slice_get t.counts.items c.args.slot c.remove-count.result 0 c.remove-count.ensures.count) in (
-      pages_removed t.counts.items t.pages.items t.spare.items _ _ _ c.self.invariant.0 c.args.slot within _ _ start count _ _ _ _
-          c.take_pages.ensures.pages c.remove-count.ensures.items c.take_pages.ensures.spare
-          (omega (arith, c.take_pages.ensures.capacity, c.take_pages.ensures.spare_capacity)),
+      pages_removed t.counts.items t.pages.items _ _ _ c.self.invariant.0 c.args.slot within _ _ start count _ _ _
+          c.take_pages.ensures.items c.remove-count.ensures.items c.take_pages.ensures.most,
       omega (arith, c.self.invariant.1, c.remove-count.ensures.room),
     )
 
@@ -42,4 +41,4 @@ returns-clause-groups c =
     let within = inside t.counts.items t.pages.items _ (ap (λ v. v.groups) c.self.view_is) c.self.invariant.0.number c.args.slot c.requires in
     let start = c.start_at-start.ensures in
     let count = sym (get_or_from_slice_get t.counts.items c.args.slot c.remove-count.result 0 c.remove-count.ensures.count) in
-    taken t.counts.items t.pages.items _ (ap (λ v. v.groups) c.self.view_is) c.self.invariant.0.number c.args.slot c.requires _ _ start count _ _ c.take_pages.ensures.pages c.remove-count.ensures.items
+    taken t.counts.items t.pages.items _ (ap (λ v. v.groups) c.self.view_is) c.self.invariant.0.number c.args.slot c.requires _ _ start count _ _ c.take_pages.ensures.items c.remove-count.ensures.items

@@ -1,0 +1,76 @@
+-- No other page has the number, and none has that of the second half.
+use Rattle.std.proofs.Common.{◌+◌, ◌∙◌, ap, arith, length}
+use Rattle.std.specs.Prelude.{slice_set}
+use Rattle.std.specs.List.{insert}
+use Rattle.std.proofs.lemmas.List.{length-set}
+use Rattle.reassembly.specs.Pages.{numbered}
+use Rattle.reassembly.specs.Runs.{cut}
+use Rattle.reassembly.proofs.Numbered.{changed_pages, kept_set, length-numbered, made_there, put_kept, put_pages, read_numbered, taken_below}
+use Rattle.reassembly.proofs.Paged.{set_part}
+use Rattle.reassembly.proofs.pages.Pages.cut.Goals as goal
+
+pub returns-in_default-clause-whole : goal.returns-in_default-clause-whole
+returns-in_default-clause-whole c e =
+    let t = c.self.inside in
+    let number = c.index-number.result.now in
+    let view = ap (λ v. v.items) c.self.view_is in
+    let there = set_part t.order.items c.args.at number (omega (arith, length-numbered t.made.items t.order.items _ view, c.requires.within)) c.index-number.ensures in
+    let within = made_there t.order.items t.free.items t.made.items t.most c.self.invariant.0 c.args.at number there in
+    let page = read_numbered t.made.items t.order.items c.args.at number _ _ there within c.index_mut.ensures.value view in
+    changed_pages t.order.items t.free.items t.made.items t.most c.self.invariant.0 c.args.at number there c.cut.new.self
+    ∙ ap (λ l. slice_set l c.args.at c.cut.new.self) view
+    ∙ ap (slice_set c.args.self.now.items c.args.at) (c.in_default.ensures.whole ∙ ap (cut c.args.place) page)
+
+pub index_mut-requires-2 : goal.index_mut-requires-2
+index_mut-requires-2 c =
+    let t = c.self.inside in
+    let number = c.index-number.result.now in
+    let view = ap (λ v. v.items) c.self.view_is in
+    let there = set_part t.order.items c.args.at number (omega (arith, length-numbered t.made.items t.order.items _ view, c.requires.within)) c.index-number.ensures in
+    let kept = kept_set t.order.items t.free.items t.made.items t.most c.self.invariant.0 c.args.at number there c.cut.new.self in
+    omega (
+      arith,
+      taken_below t.order.items t.free.items (slice_set t.made.items number c.cut.new.self) t.most kept
+          c.take_page-other.result c.take_page-other.new.made.items c.take_page-other.new.free.items c.take_page-other.ensures.taken,
+    )
+
+pub invariant_of-self-2 : goal.invariant_of-self-2
+invariant_of-self-2 c =
+    let t = c.self.inside in
+    let i = c.self.invariant in
+    let p = c.take_page-other in
+    let number = c.index-number.result.now in
+    let view = ap (λ v. v.items) c.self.view_is in
+    let long = length-numbered t.made.items t.order.items _ view in
+    let there = set_part t.order.items c.args.at number (omega (arith, long, c.requires.within)) c.index-number.ensures in
+    let kept = kept_set t.order.items t.free.items t.made.items t.most i.0 c.args.at number there c.cut.new.self in (
+      put_kept t.order.items t.free.items (slice_set t.made.items number c.cut.new.self) t.most kept p.result p.new.made.items p.new.free.items p.ensures.taken
+          (c.args.at + 1) (omega (arith, long, c.requires.within)) (length (slice_set p.new.made.items p.result c.in-Some.second)) c.insert.new.self.items
+          (length-set p.new.made.items p.result c.in-Some.second) (omega (arith, long, c.requires.room, ap (λ v. v.most) c.self.view_is)) c.in-Ok.ensures.items,
+      (omega (arith, i.1.0, c.in-Ok.ensures.capacity), (omega (arith, i.1.1.0, p.ensures.free_capacity), omega (arith, i.1.1.1, p.ensures.capacity))),
+    )
+
+pub returns-clause-halved : goal.returns-clause-halved
+returns-clause-halved c e =
+    let t = c.self.inside in
+    let p = c.take_page-other in
+    let number = c.index-number.result.now in
+    let view = ap (λ v. v.items) c.self.view_is in
+    let long = length-numbered t.made.items t.order.items _ view in
+    let there = set_part t.order.items c.args.at number (omega (arith, long, c.requires.within)) c.index-number.ensures in
+    let within = made_there t.order.items t.free.items t.made.items t.most c.self.invariant.0 c.args.at number there in
+    let page = read_numbered t.made.items t.order.items c.args.at number _ _ there within c.index_mut.ensures.value view in
+    let kept = kept_set t.order.items t.free.items t.made.items t.most c.self.invariant.0 c.args.at number there c.cut.new.self in
+    record {
+      first = c.cut.new.self;
+      second = c.in-Some.second;
+      pages_are = ap (numbered (slice_set p.new.made.items p.result c.in-Some.second)) c.in-Ok.ensures.items
+          ∙ put_pages t.order.items t.free.items (slice_set t.made.items number c.cut.new.self) t.most kept p.result p.new.made.items p.new.free.items p.ensures.taken
+          (c.args.at + 1) (omega (arith, long, c.requires.within)) c.in-Some.second
+          ∙ ap (λ l. insert l (c.args.at + 1) c.in-Some.second)
+          (changed_pages t.order.items t.free.items t.made.items t.most c.self.invariant.0 c.args.at number there c.cut.new.self
+          ∙ ap (λ l. slice_set l c.args.at c.cut.new.self) view);
+      runs_are = c.in-Some.ensures.halved ∙ ap (cut c.args.place) page;
+      first_half = c.in-Some.ensures.first;
+      second_half = c.in-Some.ensures.second;
+    }

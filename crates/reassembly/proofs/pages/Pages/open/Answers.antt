@@ -1,0 +1,30 @@
+-- The page is one that was free, or is new; its number stands behind the others.
+use Rattle.std.proofs.Common.{◌++◌, ◌∷◌, [], ◌∙◌, ap, arith, length}
+use Rattle.std.specs.Prelude.{slice_set}
+use Rattle.std.proofs.lemmas.List.{length-set}
+use Rattle.reassembly.specs.Pages.{numbered}
+use Rattle.reassembly.specs.Runs.{unfilled}
+use Rattle.reassembly.proofs.Numbered.{length-numbered, push_kept, push_pages}
+use Rattle.reassembly.proofs.pages.Pages.open.Goals as goal
+
+pub invariant_of-self : goal.invariant_of-self
+invariant_of-self c =
+    let t = c.self.inside in
+    let p = c.take_page-number in
+    let i = c.self.invariant in
+    let long = length-numbered t.made.items t.order.items _ (ap (λ v. v.items) c.self.view_is) in
+    let kept = push_kept t.order.items t.free.items t.made.items t.most i.0 p.result p.new.made.items p.new.free.items p.ensures.taken
+    (length (slice_set p.new.made.items p.result c.open.new.self)) c.push.new.self.items
+    (length-set p.new.made.items p.result c.open.new.self) (omega (arith, long, c.requires, ap (λ v. v.most) c.self.view_is)) c.in-Ok.ensures.items in (
+      kept,
+      (omega (arith, i.1.0, c.in-Ok.ensures.capacity), (omega (arith, i.1.1.0, p.ensures.free_capacity), omega (arith, i.1.1.1, p.ensures.capacity))),
+    )
+
+pub returns-clause-items : goal.returns-clause-items
+returns-clause-items c =
+    let t = c.self.inside in
+    let p = c.take_page-number in
+    ap (numbered (slice_set p.new.made.items p.result c.open.new.self)) c.in-Ok.ensures.items
+    ∙ push_pages t.order.items t.free.items t.made.items t.most c.self.invariant.0 p.result p.new.made.items p.new.free.items p.ensures.taken c.open.new.self
+    ∙ ap (λ page. numbered t.made.items t.order.items ++ page ∷ []) c.open.ensures
+    ∙ ap (λ v. v.items ++ unfilled c.args.places ∷ []) c.self.view_is
