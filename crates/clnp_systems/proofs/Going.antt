@@ -1,5 +1,5 @@
 -- How a packet goes on: its way, its port, its pieces.
-use Rattle.std.proofs.Common.{◌≡◌, ◌∙◌, refl, sym, ap, subst, ℕ, ◌+◌, ◌-◌, ◌≤◌, Bool, true, false, Option, None, Some, Ok, Err, inr, List, [], ◌∷◌, ◌++◌, map, length, take, drop, if◌then◌else◌, arith, length-append, append_assoc}
+use Rattle.std.proofs.Common.{◌≡◌, ◌∙◌, refl, sym, ap, subst, ℕ, ◌+◌, ◌-◌, ◌≤◌, Bool, true, false, Option, None, Some, Ok, Err, inr, List, [], ◌∷◌, ◌++◌, map, length, take, drop, if◌then◌else◌, arith, append_assoc}
 use Rattle.std.specs.Prelude.{Result, ◌&&◌, not, is_some, nat_le, slice_get}
 use Rattle.std.proofs.Math.Seq.{drop-append_seam, take-append_seam}
 use Rattle.clnp_machine.specs.EsisTables.declared.fact.Neighbour.{Neighbour}
@@ -15,14 +15,13 @@ use Rattle.clnp_machine.specs.Segmenter.declared.cuts.Cut.{Cut}
 use Rattle.clnp_machine.specs.Segmenter.declared.cuts.NotPermitted.{NotPermitted}
 use Rattle.clnp_machine.specs.Segmenter.Cut as segmenter
 use Rattle.clnp_machine.specs.Segmenter.Cut.{Piece, given}
-use Rattle.clnp_machine.specs.ClnpPlan.Configuration.{IsPort}
 use Rattle.clnp_machine.specs.ClnpPlan.declared.config.PortConfig.{PortConfig}
 use Rattle.clnp_machine.specs.Content.{Labelled}
 use Rattle.clnp_machine.specs.Given.{GiveAll, IsSentOnFor}
-use Rattle.clnp_machine.specs.Step.{discards, ends_at, forwarded, goes_on, goes_on_by, goes_on_way, goes_on_with, hop_by, is_named, loss_at, no_way_to, options_behind, pieces_go_on, towards, transmissions, way_of}
+use Rattle.clnp_machine.specs.Step.{discards, ends_at, forwarded, goes_on, goes_on_by, goes_on_way, goes_on_with, hop_by, is_named, loss_at, no_way_to, options_behind, pieces_go_on, redirects, towards, transmissions, way_of}
 use Rattle.clnp_machine.specs.declared.way.Hop.{Hop}
 use Rattle.clnp_machine.specs.declared.way.Way.{Way}
-use Rattle.clnp_machine.specs.System.{Effect, SystemState, Transmits}
+use Rattle.clnp_machine.specs.System.{Effect, Output, SystemState, Transmits}
 use Rattle.clnp_machine.specs.Unit.{IsCarriable, Packet, cut, value_of}
 use Rattle.clnp_machine.proofs.Pieces.{AreBoth, AreThese, IsThis, cut_both}
 use Rattle.system_entity.specs.LocalEntity.Sending.{piece_frame, transmission}
@@ -30,6 +29,7 @@ use Rattle.system_entity.proofs.LocalEntity.Sent.{CutsSay, IsAnswer, piece_octet
 use Rattle.system_entity.specs.Comes.{HasValue}
 use Rattle.system_entity.specs.declared.passing.Passing.{Passing}
 use Rattle.clnp_systems.specs.Router.Onward.{GoesOn, life_left}
+use Rattle.clnp_systems.specs.declared.onward.Onward.{Onward}
 pub use Rattle.clnp_machine.proofs.Given.{appends_whatever_came, appends_both, appends_none}
 
 -- ---- the way, and its port
@@ -135,12 +135,18 @@ module _ (came : Packet) (following : List ℕ) (q : Packet) (unit : q.unit ≡ 
   pieces_go moment [] (packet ∷ packets) these = absurd these
   pieces_go moment (piece ∷ others) [] these = absurd these
 
-module _ (s : SystemState) (came : Neighbour) (p : Packet) (following : List ℕ) (way : Way) (towards_title : Bool)
-    (told : towards_title ≡ is_some (target_of (options_behind s p.options))) (q : Packet) (unit : q.unit ≡ p.unit)
+-- where these pieces of it are given out, and the redirect that may follow them, nothing else is done
+pub record PiecesGo (way : Way) (cuts : List Cut) (s : SystemState) (came : Neighbour) (p : Packet) (following : List ℕ) (effect : Effect) : Type 0 where
+  pub after : effect.after ≡ s
+  pub pieces : List Output
+  pub outputs : effect.outputs ≡ pieces ++ redirects s came p (options_behind s p.options) way
+  pub given : (body : Extent) → seen body ≡ (value_of p).body → length (seen body) ≡ body.len
+      → GiveAll s.moment (Some (Labelled p following)) (map (transmission true (hop_by way) body) cuts) pieces
+
+module _ (s : SystemState) (came : Neighbour) (p : Packet) (following : List ℕ) (way : Way) (q : Packet) (unit : q.unit ≡ p.unit)
     (same : (value_of q).body ≡ (value_of p).body) (octets : ℕ) (result : Result (List Cut) NotPermitted) where
   both_go : (pieces : Option (List Piece)) (packets : Option (List Packet)) (cuts : List Cut) → AreBoth q pieces packets → IsAnswer octets pieces result
-      → result ≡ Ok cuts → GoesOn (record { way = way; towards_title = towards_title; cuts = cuts }) s came p following
-      (pieces_go_on s came p following (options_behind s p.options) way packets)
+      → result ≡ Ok cuts → PiecesGo way cuts s came p following (pieces_go_on s came p following (options_behind s p.options) way packets)
   both_go None None cuts both answer ok = absurd (cc)
   both_go (Some pieces) (Some packets) cuts both answer ok =
       let are : map given pieces ≡ cuts = cc in
@@ -148,7 +154,6 @@ module _ (s : SystemState) (came : Neighbour) (p : Packet) (following : List ℕ
         after = refl;
         pieces = transmissions (hop_by way) (Some packets);
         outputs = refl;
-        towards_title = told;
         given = λ body shown count.
             subst (λ (list : List Cut). GiveAll s.moment (Some (Labelled p following)) (map (transmission true (hop_by way) body) list)
             (transmissions (hop_by way) (Some packets))) are
@@ -165,6 +170,32 @@ module _ (s : SystemState) (came : Neighbour) (p : Packet) (following : List ℕ
   none_goes (Some pieces) (Some packets) refused both answer err = absurd (cc)
   none_goes None (Some packets) refused both answer err = absurd both
   none_goes (Some pieces) None refused both answer err = absurd both
+
+-- what the code's cutting answers for the header under which it goes on
+module _ (s : SystemState) (came : Neighbour) (p : Packet) (following : List ℕ) (effect : Effect) (passing : Passing) (onward : Onward) (head : List ℕ)
+    (result : Result (List Cut) NotPermitted) (carriable : IsCarriable p) (has : HasValue passing (value_of p)) (least : 512 ≤ onward.mtu)
+    (on : GoesOn onward head s came p following effect) (say : CutsSay head passing.len onward.mtu result) where
+  abbrev leaving : Packet
+  leaving = forwarded p on.loss (options_behind s p.options)
+
+  answer : IsAnswer (segment_length (value_of leaving)) (segmenter.cut (value_of leaving) onward.mtu) result
+  answer = say (value_of leaving) on.spells has.len
+
+  both : AreBoth leaving (segmenter.cut (value_of leaving) onward.mtu) (cut leaving onward.mtu)
+  both = cut_both leaving onward.mtu (record { pdu = on.spells.pdu; from = carriable.from; to = carriable.to }) least
+
+  -- its pieces go on
+  pub goes : (cuts : List Cut) → result ≡ Ok cuts → PiecesGo onward.way cuts s came p following effect
+  goes cuts ok =
+      subst (λ (e : Effect). PiecesGo onward.way cuts s came p following e) (sym on.effect_is)
+      (both_go s came p following onward.way leaving refl refl (segment_length (value_of leaving)) result
+      (segmenter.cut (value_of leaving) onward.mtu) (cut leaving onward.mtu) cuts both answer ok)
+
+  -- it may not be cut
+  pub stays : (refused : NotPermitted) → result ≡ Err refused → effect ≡ discards s p following (reason_code SegmentationNotPermitted)
+  stays refused err =
+      on.effect_is ∙ none_goes s came p following onward.way leaving refl refl (segment_length (value_of leaving)) result
+      (segmenter.cut (value_of leaving) onward.mtu) (cut leaving onward.mtu) refused both answer err
 
 -- ---- what comes of it by a port
 
@@ -190,48 +221,24 @@ module _ (s : SystemState) (came : Neighbour) (p : Packet) (following : List ℕ
       ap (λ (n : ℕ). by_life (nat_le n (loss_at port))) has.lifetime
       ∙ ap by_life (none_is (nat_le passing.life (loss_at port)) (passing.life - loss_at port) (sym told ∙ none))
 
-  module _ (passing : Passing) (left : Option ℕ) (life : ℕ) (changed head : List ℕ) (target : Option (List ℕ)) (result : Result (List Cut) NotPermitted)
-      (is : IsPort port) (carriable : IsCarriable p) (has : HasValue passing (value_of p)) (told : left ≡ life_left passing.life port) (some : left ≡ Some life)
-      (edited : SpellsHeader (with_options behind (value_of p)) changed)
-      (leads : (v : PduValue) → SpellsHeader v changed → target ≡ target_of v.options)
-      (spelled : (v : PduValue) → SpellsHeader v changed → SpellsHeader (with_lifetime life v) head) (say : CutsSay head passing.len port.mtu result)
-      (valued : value_of lowered ≡ with_options behind (with_lifetime (p.lifetime - loss_at port) (value_of p))) where
-    lives : (nat_le passing.life (loss_at port) ≡ false) × (passing.life - loss_at port ≡ life)
-    lives = left_is (nat_le passing.life (loss_at port)) (passing.life - loss_at port) life (sym told ∙ some)
-
-    alive : outcome ≡ pieces_go_on s came p following behind way (cut lowered port.mtu)
-    alive = ap (λ (n : ℕ). by_life (nat_le n (loss_at port))) has.lifetime ∙ ap by_life lives.0
-
-    spells : SpellsHeader (value_of lowered) head
-    spells =
-        subst (λ (v : PduValue). SpellsHeader v head) (sym valued)
-        (subst (λ (n : ℕ). SpellsHeader (with_lifetime (n - loss_at port) (with_options behind (value_of p))) head) (sym has.lifetime)
-        (subst (λ (n : ℕ). SpellsHeader (with_lifetime n (with_options behind (value_of p))) head) (sym lives.1)
-        (spelled (with_options behind (value_of p)) edited)))
-
-    -- what the code's cutting answers
-    answer : IsAnswer (segment_length (value_of lowered)) (segmenter.cut (value_of lowered) port.mtu) result
-    answer = say (value_of lowered) spells has.len
-
-    both : AreBoth lowered (segmenter.cut (value_of lowered) port.mtu) (cut lowered port.mtu)
-    both = cut_both lowered port.mtu (record { pdu = spells.pdu; from = carriable.from; to = carriable.to }) is.mtu.least
-
-    towards_title_is : is_some target ≡ is_some (target_of behind)
-    towards_title_is = ap is_some (leads (with_options behind (value_of p)) edited)
-
-    -- its pieces go on
-    pub goes : (towards_title : Bool) → towards_title ≡ is_some target → (cuts : List Cut) → result ≡ Ok cuts
-        → GoesOn (record { way = way; towards_title = towards_title; cuts = cuts }) s came p following outcome
-    goes towards_title titled cuts ok =
-        subst (λ (effect : Effect). GoesOn (record { way = way; towards_title = towards_title; cuts = cuts }) s came p following effect) (sym alive)
-        (both_go s came p following way towards_title (titled ∙ towards_title_is) lowered refl refl (segment_length (value_of lowered)) result
-        (segmenter.cut (value_of lowered) port.mtu) (cut lowered port.mtu) cuts both answer ok)
-
-    -- it may not be cut
-    pub stays : (refused : NotPermitted) → result ≡ Err refused → outcome ≡ discards s p following (reason_code SegmentationNotPermitted)
-    stays refused err =
-        alive ∙ none_goes s came p following way (is_some target) towards_title_is lowered refl refl (segment_length (value_of lowered)) result
-        (segmenter.cut (value_of lowered) port.mtu) (cut lowered port.mtu) refused both answer err
+  -- it goes on with what is left of it
+  pub lives : (passing : Passing) (left : Option ℕ) (life : ℕ) (changed head : List ℕ) (target : Option (List ℕ)) (towards_title : Bool)
+      → HasValue passing (value_of p) → left ≡ life_left passing.life port → left ≡ Some life → SpellsHeader (with_options behind (value_of p)) changed
+      → ((v : PduValue) → SpellsHeader v changed → target ≡ target_of v.options) → towards_title ≡ is_some target
+      → ((v : PduValue) → SpellsHeader v changed → SpellsHeader (with_lifetime life v) head)
+      → value_of lowered ≡ with_options behind (with_lifetime (p.lifetime - loss_at port) (value_of p))
+      → GoesOn (record { way = way; towards_title = towards_title; mtu = port.mtu }) head s came p following outcome
+  lives passing left life changed head target towards_title has told some edited leads titled spelled valued =
+      let rest = left_is (nat_le passing.life (loss_at port)) (passing.life - loss_at port) life (sym told ∙ some) in
+      record {
+        loss = loss_at port;
+        spells = subst (λ (v : PduValue). SpellsHeader v head) (sym valued)
+            (subst (λ (n : ℕ). SpellsHeader (with_lifetime (n - loss_at port) (with_options behind (value_of p))) head) (sym has.lifetime)
+            (subst (λ (n : ℕ). SpellsHeader (with_lifetime n (with_options behind (value_of p))) head) (sym rest.1)
+            (spelled (with_options behind (value_of p)) edited)));
+        towards_title = titled ∙ ap is_some (leads (with_options behind (value_of p)) edited);
+        effect_is = ap (λ (n : ℕ). by_life (nat_le n (loss_at port))) has.lifetime ∙ ap by_life rest.0;
+      }
 
 -- ---- the frame
 
@@ -245,11 +252,3 @@ data_in frame head following v len split is count =
     ∙ ap (λ (f : List ℕ). take len (drop (length (header v)) f)) (split ∙ append_assoc (header v) v.body following)
     ∙ ap (λ (f : List ℕ). take len f) (drop-append_seam (header v) (v.body ++ following))
     ∙ ap (λ (n : ℕ). take n (v.body ++ following)) (sym count) ∙ take-append_seam v.body following
-
-pub fits : (frame head following : List ℕ) (v : PduValue) (len : ℕ) → frame ≡ (header v ++ v.body) ++ following → head ≡ header v → length v.body ≡ len
-    → length head + len ≤ length frame
-fits frame head following v len split is count =
-    let all : length frame ≡ length (header v) + length v.body + length following =
-    ap length split ∙ length-append (header v ++ v.body) following ∙ ap (λ (n : ℕ). n + length following) (length-append (header v) v.body) in
-    let front : length head ≡ length (header v) = ap length is in
-    omega arith

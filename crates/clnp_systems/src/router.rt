@@ -15,13 +15,12 @@ ghost use Rattle.clnp_machine.specs.Step.{goes_on, goes_on_with, is_redirected, 
 ghost use Rattle.clnp_machine.specs.ClnpOptions.Edits.{target_of};
 ghost use Rattle.clnp_machine.specs.ClnpOptions.Parameter.{Parameter};
 ghost use Rattle.clnp_machine.specs.PduHeader.Headers.{SpellsHeader, with_options};
-ghost use Rattle.clnp_machine.specs.System.{SystemState, AsksForEcho, FrameComes, IsChanged, IsRestarted, IsCongested, MomentComes, first_state, next_number};
+ghost use Rattle.clnp_machine.specs.System.{Effect, SystemState, AsksForEcho, FrameComes, IsChanged, IsRestarted, IsCongested, MomentComes, first_state, next_number};
 ghost use Rattle.clnp_machine.specs.Unit.{IsCarriable, Packet, value_of, wire};
 ghost use Rattle.clnp_machine.specs.PduHeader.Value.{PduValue};
-ghost use Rattle.clnp_machine.specs.Segmenter.Left.{IsCutOf};
 ghost use Rattle.system_entity.specs.LocalEntity.Local.{IsWhy};
 ghost use Rattle.system_entity.specs.Comes.{HasValue, IsAtFront};
-ghost use Rattle.clnp_systems.specs.Router.Onward.{ComesTo};
+ghost use Rattle.clnp_systems.specs.Router.Onward.{ComesTo, GoesOn, IsHeaderOver};
 ghost use Rattle.system_entity.specs.Steps.{Carries, IsSpentIn, MayCome, TakesStep, input_with};
 ghost use Rattle.clnp_systems.specs.Router.Stands.{IsLeftBy, Stands};
 
@@ -35,6 +34,7 @@ use clnp_machine::laws;
 use clnp_machine::nsaps::{Address, Prefix, Snpa};
 use clnp_machine::options::Reason;
 use clnp_machine::routing::Route;
+use clnp_machine::segmenting::{Cuts, NotPermitted};
 use clnp_machine::system_plan::{Limits, Output, PortConfig, SendRefusal, SystemConfig};
 use clnp_machine::views::Frame;
 use clnp_machine::way::Way;
@@ -236,13 +236,53 @@ impl Router {
         ensures congested { self.new.entity.congested ≡ self.old.entity.congested }
         ensures config { self.new.entity.local.configuration ≡ self.old.entity.local.configuration }
     {
-        // By reference: how it goes on holds a header, which isn't copied.
-        match &mut self.onward(passing) {
-            Ok(onward) => {
+        // It is changed where it stands, and lent to all others: a header has up to 254 octets.
+        let mut head = Header::of(passing.head);
+        match self.onward(passing, &mut head) {
+            Ok(onward) => self.go_on(alloc, came, passing, &onward, &head, frame, out),
+            Err(reason) => self.entity.discard(alloc, frame, reason.code(), 0, out),
+        }
+    }
+
+    /// A PDU goes on with a header that was changed, in pieces where it has to, and its source may be told of a better way; or it
+    /// is discarded, since it may not be segmented (ISO/IEC 8473, section 6.7; ISO 9542, section 6.8).
+    fn go_on(
+        &mut self,
+        alloc: Global,
+        came: &Neighbour,
+        passing: &Passing<'_>,
+        onward: &Onward,
+        head: &Header,
+        frame: &Frame,
+        out: &mut Vec<Output>,
+    ) -> Result<(), NoMemory>
+        requires few { length frame.now ≤ 70000 }
+        requires pdu { IsAtFront passing.now frame.now }
+        requires head { IsHeaderOver passing.now.len head.now }
+        requires mtu { 512 ≤ onward.now.mtu }
+        ensures stands { OnOk result ((s : SystemState) (p : Packet) (following : List ℕ) (effect : Effect) → Stands self.old s
+            → IsCarriable p → HasValue passing.now (value_of p) → frame.now ≡ wire p ++ following
+            → GoesOn onward.now head.now s came.now p following effect
+            → Stands self.new effect.after) }
+        ensures outputs { OnOk result ((s : SystemState) (p : Packet) (following : List ℕ) (effect : Effect) → Stands self.old s
+            → IsCarriable p → HasValue passing.now (value_of p) → frame.now ≡ wire p ++ following
+            → GoesOn onward.now head.now s came.now p following effect
+            → Appends s.moment (Some (Labelled p following)) out.old.items out.new.items effect.outputs) }
+        ensures none { OnErr result (out.new.items ≡ out.old.items) }
+        ensures spent { OnErr result (self.new.entity.spent ≡ true) }
+        ensures refused { self.old.entity.spent ≡ true → IsErr result }
+        ensures moment { self.new.entity.moment ≡ self.old.entity.moment }
+        ensures congested { self.new.entity.congested ≡ self.old.entity.congested }
+        ensures config { self.new.entity.local.configuration ≡ self.old.entity.local.configuration }
+    {
+        // By reference: the cuts hold a header, which isn't copied again.
+        match &mut Cuts::new(*head, passing.len, onward.mtu) {
+            Ok(cuts) => {
                 let from = passing.head.len();
                 let before = out.len();
                 let hop = onward.way.hop();
-                self.entity.pass_on(alloc, frame, from, passing.len, &mut onward.cuts, hop, out)?;
+                self.entity
+                    .pass_on(alloc, frame, from, passing.len, cuts, hop, out)?;
                 if let Err(refused) = self.redirect(
                     alloc,
                     came,
@@ -256,38 +296,44 @@ impl Router {
                 }
                 Ok(())
             }
-            Err(reason) => self.entity.discard(alloc, frame, reason.code(), 0, out),
+            Err(NotPermitted { .. }) => {
+                let reason = Reason::SegmentationNotPermitted;
+                self.entity.discard(alloc, frame, reason.code(), 0, out)
+            }
         }
     }
 
-    /// How a PDU for another address goes on, or for which reason it is discarded.
-    fn onward(&self, passing: &Passing<'_>) -> Result<Onward, Reason>
-        requires { (v : PduValue) × HasValue passing.now v }
+    /// How a PDU for another address goes on, or for which reason it is discarded; its header is changed to the one behind the
+    /// router.
+    fn onward(&self, passing: &Passing<'_>, head: &mut Header) -> Result<Onward, Reason>
+        requires pdu { (v : PduValue) × HasValue passing.now v }
+        requires head { head.old ≡ passing.now.head.now }
         ensures goes { (s : SystemState) (came : Neighbour) (p : Packet) (following : List ℕ) → Stands self.now s
             → IsCarriable p
             → HasValue passing.now (value_of p)
-            → ComesTo result s came p following (goes_on s came p following) }
-        ensures each { IfOk result (λ onward. AllByRecursion (IsCutOf passing.now.len) onward.cuts) }
+            → ComesTo result head.new s came p following (goes_on s came p following) }
+        ensures head { IsHeaderOver passing.now.len head.new }
+        ensures mtu { IfOk result (λ onward. 512 ≤ onward.mtu) }
     {
-        let mut head = Header::of(passing.head);
         let title = self.title();
-        if is_off_route(&head, title) {
+        if is_off_route(head, title) {
             return Err(Reason::PathNotAcceptable);
         }
-        behind(&mut head, title, self.entity.is_congested());
-        self.onward_with(passing, &mut head)
+        behind(head, title, self.entity.is_congested());
+        self.onward_with(passing, head)
     }
 
     /// How a PDU goes on with a header that was changed, or for which reason it is discarded.
     fn onward_with(&self, passing: &Passing<'_>, head: &mut Header) -> Result<Onward, Reason>
-        requires pdu { (v : PduValue) × HasValue passing.now v }
-        requires head { (v : PduValue) × SpellsHeader v head.old × (length v.body ≡ passing.now.len) }
+        requires { IsHeaderOver passing.now.len head.old }
         ensures goes { (s : SystemState) (came : Neighbour) (p : Packet) (following : List ℕ) → Stands self.now s
             → IsCarriable p
             → HasValue passing.now (value_of p)
             → SpellsHeader (with_options (options_behind s p.options) (value_of p)) head.old
-            → ComesTo result s came p following (goes_on_with s came p following (options_behind s p.options)) }
-        ensures each { IfOk result (λ onward. AllByRecursion (IsCutOf passing.now.len) onward.cuts) }
+            → ComesTo result head.new s came p following
+            (goes_on_with s came p following (options_behind s p.options)) }
+        ensures head { IsHeaderOver passing.now.len head.new }
+        ensures mtu { IfOk result (λ onward. 512 ≤ onward.mtu) }
     {
         let to = towards(head, &passing.to);
         let Some(way) = self.entity.way(&to) else {

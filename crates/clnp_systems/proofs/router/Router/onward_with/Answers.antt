@@ -44,7 +44,7 @@ returns-clause-goes c = λ s came p following h carriable has edited.
     let behind = options_behind s p.options in
     let towards_it = c.towards-to.ensures (with_options behind (value_of p)) edited ∙ whither_is p behind c.args.passing.now has in
     let port = c.in-Some-get.port.now in
-    subst (λ (effect : Effect). ComesTo c.by_port.result s came p following effect)
+    subst (λ (effect : Effect). ComesTo c.by_port.result c.by_port.new.head s came p following effect)
     (by_its_port s came p following behind c.towards-to.result towards_it c.way.result c.in-Some.way c.in-Some.is (c.way.ensures s s.moment stands.parts)
     c.is_barred.result (c.is_barred.ensures (with_options behind (value_of p)) edited) c.ports.result.now (Some port) c.if-is_barred.false
     (c.ports.ensures.stands s s.moment stands.parts)
