@@ -9,7 +9,7 @@ pub fn copy_over(octets: &[u8], place: &mut [u8])
     requires { length octets.now ≡ length place.old }
     ensures { place.new ≡ octets.now }
 {
-    // Few octets are copied in their place: a call of the C library takes longer than that.
+    // Few octets are copied in their place, without a call of the C library.
     match octets.len() {
         0 => {}
         1 => place[0] = octets[0],
