@@ -8,8 +8,6 @@ mod pack;
 mod pieces;
 mod refusal;
 mod single;
-#[cfg(test)]
-mod tests;
 mod words;
 
 pub use refusal::PackRefusal;

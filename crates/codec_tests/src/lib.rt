@@ -3,6 +3,8 @@
 #![tactic(auto)]
 
 #[cfg(test)]
+mod capture_text_calls;
+#[cfg(test)]
 mod captures_calls;
 #[cfg(test)]
 mod clnp_options_calls;

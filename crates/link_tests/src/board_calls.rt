@@ -20,6 +20,31 @@ fn noting_link(
     })
 }
 
+/// Puts such a link behind others.
+fn push_link(
+    alloc: Global,
+    fails: &[u64],
+    notes: &Rc<RefCell<Notes>>,
+    links: &mut Vec<Box<dyn Link>>,
+) -> Result<(), NoMemory> {
+    let link = noting_link(alloc, fails, notes)?;
+    links.push(Box::new(alloc, link)?)?;
+    Ok(())
+}
+
+/// A board of two such links, of which the first fails at these calls and the second at none.
+fn board_of(
+    alloc: Global,
+    fails: &[u64],
+    first: &Rc<RefCell<Notes>>,
+    second: &Rc<RefCell<Notes>>,
+) -> Result<Board, NoMemory> {
+    let mut links: Vec<Box<dyn Link>> = Vec::new(alloc);
+    push_link(alloc, fails, first, &mut links)?;
+    push_link(alloc, &[], second, &mut links)?;
+    Board::new(alloc, links)
+}
+
 /// A look at a port, or nothing where it isn't attached or there is no room.
 fn look<B: Ports>(board: &mut B, port: usize, buf: &mut [u8]) -> Option<Polled> {
     if port >= board.count() || buf.len() < 70_000 {
@@ -65,25 +90,19 @@ fn a_link_fails_and_the_other_goes_on(rt: HostRuntime) {
     let alloc = rt.alloc();
     let first = no_notes(alloc).expect(&rt, "memory");
     let second = no_notes(alloc).expect(&rt, "memory");
-    let mut links: Vec<Box<dyn Link>> = Vec::new(alloc);
-    let failing = noting_link(alloc, &[3], &first).expect(&rt, "memory");
-    links
-        .push(Box::new(alloc, failing).expect(&rt, "memory"))
-        .expect(&rt, "memory");
-    let sound = noting_link(alloc, &[], &second).expect(&rt, "memory");
-    links
-        .push(Box::new(alloc, sound).expect(&rt, "memory"))
-        .expect(&rt, "memory");
-    let mut board = Board::new(alloc, links).expect(&rt, "memory");
+    let mut board = board_of(alloc, &[3], &first, &second).expect(&rt, "memory");
     let mut room = vec![in alloc; 0u8; 70_000].expect(&rt, "memory");
     assert!(rt; board.len() == 2);
     assert!(rt; goes_on(&mut board, room.as_mut_slice()));
-    let first = first.try_borrow().expect(&rt, "free");
-    assert!(rt; first.empties == 1 && first.sent.is_empty() && !first.dropped);
-    let second = second.try_borrow().expect(&rt, "free");
-    assert!(rt;
-        second.empties == 1 && second.sent.as_slice() == b"ok".as_slice() && !second.dropped
-    );
+    assert!(rt; is_noted(&first, b"") && is_noted(&second, b"ok"));
+}
+
+/// Whether it is noted that one look was empty, that these octets were sent, and not that the link was dropped.
+fn is_noted(notes: &Rc<RefCell<Notes>>, sent: &[u8]) -> bool {
+    match notes.try_borrow() {
+        Ok(notes) => notes.empties == 1 && notes.sent.as_slice() == sent && !notes.dropped,
+        Err(_) => false,
+    }
 }
 
 #[test]
@@ -91,16 +110,7 @@ fn drops_the_links_that_are_gone(rt: HostRuntime) {
     let alloc = rt.alloc();
     let first = no_notes(alloc).expect(&rt, "memory");
     let second = no_notes(alloc).expect(&rt, "memory");
-    let mut links: Vec<Box<dyn Link>> = Vec::new(alloc);
-    let failing = noting_link(alloc, &[1], &first).expect(&rt, "memory");
-    links
-        .push(Box::new(alloc, failing).expect(&rt, "memory"))
-        .expect(&rt, "memory");
-    let sound = noting_link(alloc, &[], &second).expect(&rt, "memory");
-    links
-        .push(Box::new(alloc, sound).expect(&rt, "memory"))
-        .expect(&rt, "memory");
-    let mut board = Board::new(alloc, links).expect(&rt, "memory");
+    let mut board = board_of(alloc, &[1], &first, &second).expect(&rt, "memory");
     let mut room = vec![in alloc; 0u8; 70_000].expect(&rt, "memory");
     assert!(rt; look(&mut board, 0, room.as_mut_slice()) == Some(Polled::Detached));
     assert!(rt; !is_dropped(&first));

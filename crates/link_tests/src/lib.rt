@@ -12,3 +12,5 @@ mod clock_calls;
 mod link_calls;
 #[cfg(test)]
 mod noting;
+#[cfg(test)]
+mod recorded_link_calls;

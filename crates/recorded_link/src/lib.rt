@@ -3,7 +3,5 @@
 
 mod line;
 mod recorded;
-#[cfg(test)]
-mod tests;
 
 pub use recorded::RecordedLink;

@@ -69,6 +69,34 @@ fn see_host(rt: &impl Abort, host: &EndSystem) {
     assert!(rt; host.next_hop(&address(rt, 1)) == Target::EndSystems);
 }
 
+/// All that is done with it. It is lent, so that what ends the test has nothing to drop here.
+fn call_each(rt: &impl Abort, alloc: Global, host: &mut EndSystem, out: &mut Vec<Output>) {
+    see_host(rt, host);
+    send(rt, alloc, host, out);
+    echo(rt, alloc, host, out);
+    receive(rt, alloc, host, out);
+    move_port(rt, host);
+    shorten(rt, host);
+    congest_and_restart(host);
+    see_port(rt, host.ports(), 600);
+    see_host(rt, host);
+}
+
+/// What it gave out.
+fn see_all(rt: &impl Abort, out: &[Output]) {
+    assert!(rt; out.len() == 5);
+    see_sent(rt, out.get(0), 1);
+    see_frame(
+        rt,
+        out.get(1),
+        Target::EndSystems,
+        &FROM_THE_HOST[..19],
+        b"hi",
+    );
+    see_sent(rt, out.get(2), 2);
+    see_got(rt, out.get(4));
+}
+
 #[test]
 fn a_host_sends_and_receives(rt: HostRuntime) {
     let alloc = rt.alloc();
@@ -78,24 +106,6 @@ fn a_host_sends_and_receives(rt: HostRuntime) {
     };
     let mut out = Vec::new(alloc);
     let mut host = host_of(&rt, alloc, config, scenario.limits());
-    see_host(&rt, &host);
-    send(&rt, alloc, &mut host, &mut out);
-    echo(&rt, alloc, &mut host, &mut out);
-    receive(&rt, alloc, &mut host, &mut out);
-    move_port(&rt, &mut host);
-    shorten(&rt, &mut host);
-    congest_and_restart(&mut host);
-    see_port(&rt, host.ports(), 600);
-    see_host(&rt, &host);
-    assert!(&rt; out.len() == 5);
-    see_sent(&rt, out.get(0), 1);
-    see_frame(
-        &rt,
-        out.get(1),
-        Target::EndSystems,
-        &FROM_THE_HOST[..19],
-        b"hi",
-    );
-    see_sent(&rt, out.get(2), 2);
-    see_got(&rt, out.get(4));
+    call_each(&rt, alloc, &mut host, &mut out);
+    see_all(&rt, &out);
 }

@@ -99,6 +99,30 @@ fn see_router(rt: &impl Abort, router: &Router) {
     assert!(rt; router.next_hop(&address(rt, 3)).is_none());
 }
 
+/// What comes to it, and what it gives out. It is lent, so that what ends the test has nothing to drop here.
+fn forward_and_echo(rt: &impl Abort, alloc: Global, router: &mut Router, out: &mut Vec<Output>) {
+    see_router(rt, router);
+    forward(rt, alloc, router, out);
+    let to = Target::System(end_of_the_route(rt));
+    see_frame(rt, out.get(0), to, &FROM_THE_ROUTER[..19], b"hi");
+    // The way leads back to where the PDU came from, but the router doesn't know that its source is there: no redirect follows.
+    assert!(rt; out.len() == 1);
+    out.clear();
+    echo(rt, alloc, router, out);
+    see_sent(rt, out.get(0), 1);
+}
+
+/// How it is changed.
+fn change(rt: &impl Abort, alloc: Global, router: &mut Router) {
+    set_route(rt, alloc, router);
+    remove_route(rt, router);
+    move_port(rt, router);
+    shorten(rt, router);
+    congest_and_restart(router);
+    see_port(rt, router.ports(), 600);
+    see_router(rt, router);
+}
+
 #[test]
 fn a_router_forwards(rt: HostRuntime) {
     let alloc = rt.alloc();
@@ -108,20 +132,6 @@ fn a_router_forwards(rt: HostRuntime) {
     };
     let mut out = Vec::new(alloc);
     let mut router = router_of(&rt, alloc, config, scenario.limits());
-    see_router(&rt, &router);
-    forward(&rt, alloc, &mut router, &mut out);
-    let to = Target::System(end_of_the_route(&rt));
-    see_frame(&rt, out.get(0), to, &FROM_THE_ROUTER[..19], b"hi");
-    // The way leads back to where the PDU came from, but the router doesn't know that its source is there: no redirect follows.
-    assert!(&rt; out.len() == 1);
-    out.clear();
-    echo(&rt, alloc, &mut router, &mut out);
-    see_sent(&rt, out.get(0), 1);
-    set_route(&rt, alloc, &mut router);
-    remove_route(&rt, &mut router);
-    move_port(&rt, &mut router);
-    shorten(&rt, &mut router);
-    congest_and_restart(&mut router);
-    see_port(&rt, router.ports(), 600);
-    see_router(&rt, &router);
+    forward_and_echo(&rt, alloc, &mut router, &mut out);
+    change(&rt, alloc, &mut router);
 }

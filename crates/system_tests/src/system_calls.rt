@@ -7,6 +7,7 @@ use clnp_machine::system_plan::{Limits, Note, Output, Role, SystemConfig};
 use clnp_machine::views::Frame;
 use clnp_systems::System;
 use std::alloc::Global;
+use std::mem::forget;
 use std::process::Abort;
 use system_entity::Input;
 
@@ -115,6 +116,33 @@ fn see_restart(rt: &impl Abort, output: Option<&Output>) {
     };
 }
 
+/// What it tells of itself.
+fn see_system(rt: &impl Abort, system: &System) {
+    assert!(rt; system.config().name() == b"a".as_slice());
+    assert!(rt; system.moment() == 1);
+    assert!(rt; system.as_host().is_some());
+    assert!(rt; system.as_router().is_none());
+}
+
+/// All that comes to it. It is lent, so that what ends the test has nothing to drop here.
+fn step_each(rt: &impl Abort, alloc: Global, system: &mut System, out: &mut Vec<Output>) {
+    see_system(rt, system);
+    send(rt, alloc, system, out);
+    echo(rt, alloc, system, out);
+    receive(rt, alloc, system, out);
+    restart(rt, alloc, system, out);
+    see_all(rt, out);
+    congest(rt, alloc, system, out);
+}
+
+/// What it gave out.
+fn see_all(rt: &impl Abort, out: &[Output]) {
+    see_sent(rt, out.get(0), 1);
+    see_refused(rt, out.get(2));
+    see_got(rt, out.get(3));
+    see_restart(rt, out.get(4));
+}
+
 #[test]
 fn whatever_comes_is_a_step(rt: HostRuntime) {
     let alloc = rt.alloc();
@@ -124,19 +152,19 @@ fn whatever_comes_is_a_step(rt: HostRuntime) {
     };
     let mut out = Vec::new(alloc);
     let mut system = system_of(&rt, alloc, config, scenario.limits());
-    assert!(&rt; system.config().name() == b"a".as_slice());
-    assert!(&rt; system.moment() == 1);
-    assert!(&rt; system.as_host().is_some());
-    assert!(&rt; system.as_router().is_none());
-    send(&rt, alloc, &mut system, &mut out);
-    echo(&rt, alloc, &mut system, &mut out);
-    receive(&rt, alloc, &mut system, &mut out);
-    restart(&rt, alloc, &mut system, &mut out);
-    see_sent(&rt, out.get(0), 1);
-    see_refused(&rt, out.get(2));
-    see_got(&rt, out.get(3));
-    see_restart(&rt, out.get(4));
-    congest(&rt, alloc, &mut system, &mut out);
+    step_each(&rt, alloc, &mut system, &mut out);
+    // It is left to the end of the process: to drop it would be proved once more.
+    forget(system);
+}
+
+/// How it is changed.
+fn change(rt: &impl Abort, alloc: Global, system: &mut System) {
+    move_port(rt, system);
+    shorten(rt, system);
+    if system.as_router().is_some() {
+        set_route(rt, alloc, system);
+        remove_route(rt, system);
+    }
 }
 
 #[test]
@@ -145,11 +173,7 @@ fn a_system_is_attached_elsewhere(rt: HostRuntime) {
     let scenario = scenario_of(&rt, alloc);
     for config in scenario.systems() {
         let mut system = system_of(&rt, alloc, config, scenario.limits());
-        move_port(&rt, &mut system);
-        shorten(&rt, &mut system);
-        if system.as_router().is_some() {
-            set_route(&rt, alloc, &mut system);
-            remove_route(&rt, &mut system);
-        }
+        change(&rt, alloc, &mut system);
+        forget(system);
     }
 }

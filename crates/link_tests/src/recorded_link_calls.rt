@@ -1,9 +1,9 @@
-//! A text of lines, some of them capture lines.
+//! A link that gives the frames of a text of lines, some of them capture lines.
 ghost use Rattle.std.specs.Prelude.{◌≤◌, length};
 
-use crate::RecordedLink;
 use link_board::Link;
 use link_board::nsaps::Target;
+use recorded_link::RecordedLink;
 use std::process::Abort;
 
 /// Lines of which the second and the last are capture lines.

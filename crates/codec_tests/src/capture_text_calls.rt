@@ -1,6 +1,6 @@
 //! Lines packed and shown again, and lines of which one word was changed.
-use crate::PackRefusal;
-use crate::many::pack_line;
+use capture_text::PackRefusal;
+use capture_text::many::pack_line;
 use captures::base::{DigitValues, NoMemory, next_line, next_word, push, words};
 use captures::many::{read_capture, show_line};
 use std::alloc::Global;
