@@ -20,6 +20,9 @@ mod moves;
 mod outputs;
 mod sending;
 
+/// For so many copies room is made at the start, so that the list of most storms never grows.
+const FIRST_ROOM: usize = 2048;
+
 /// The systems, the copies that were ever put on a subnetwork, and the clock. After memory was refused in a move it is
 /// in no known state.
 #[derive(Drop)]
@@ -51,7 +54,7 @@ impl Network {
             clock: 0,
             systems,
             mtus,
-            copies: Vec::new(alloc),
+            copies: Vec::with_capacity(alloc, FIRST_ROOM)?,
             cursor: 0,
             weight: 0,
             outputs: Vec::new(alloc),

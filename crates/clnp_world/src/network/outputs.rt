@@ -29,6 +29,7 @@ const COPY_WEIGHT: u64 = 64;
 impl Network {
     /// Puts the outputs, which are of the system at a place, on the network, in their order. The frame that the system
     /// was given has the origin `came`; where none was, nothing goes on, and any origin serves.
+    #[inline(always)]
     pub(super) fn put_all_out<L: LineSink>(
         &mut self,
         alloc: Global,
@@ -53,6 +54,7 @@ impl Network {
 
     /// Puts one of the outputs, which is of the system at a place, on the network: its note is written, or its frame put
     /// on the port's subnetwork. The frame that the system was given has the origin `came`.
+    #[inline(never)]
     fn put_out<L: LineSink>(
         &mut self,
         alloc: Global,
@@ -135,6 +137,7 @@ impl Network {
     }
 
     /// The origin of a frame that the system at a place sends, where the frame that it was given has the origin `came`.
+    #[inline(always)]
     fn origin_of(&self, place: usize, sending: &Sending, came: Origin) -> Origin
         requires { place < vec_len self.now.systems }
         ensures { (model : network.LabelledNetwork) (system : SystemState) → Shows self.now model
@@ -152,6 +155,7 @@ impl Network {
     }
 
     /// Puts a frame of the system at a place on the subnetwork of its port, where it has that port.
+    #[inline(always)]
     fn put_copy(
         &mut self,
         place: usize,
@@ -183,6 +187,7 @@ impl Network {
     }
 
     /// Puts a copy behind the others, and weighs it.
+    #[inline(always)]
     pub(super) fn push_copy(&mut self, copy: FrameCopy) -> Result<(), NoMemory>
         ensures puts { OnOk result (PutsCopies self.old self.new (copy ∷ [])) }
         ensures others { self.new ≡ record self.old { copies = self.new.copies; weight = self.new.weight } }

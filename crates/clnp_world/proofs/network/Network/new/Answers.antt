@@ -16,11 +16,11 @@ returns c = record {
     mtus = c.in_ok-mtus.ensures ∙ ap (λ (subnets : List Subnetwork). map (λ (subnet : Subnetwork). subnet.mtu) subnets) c.subnets.ensures;
     wide = AllByRecursion-mapped (λ (subnet : Subnetwork). IsWithin 512 65535 subnet.mtu) (IsWithin 512 65535) (λ (subnet : Subnetwork). subnet.mtu)
         c.args.scenario.now.subnets (λ subnet fits. fits) c.is_fit.ensures.mtus;
-    copies = c.new.ensures.items;
+    copies = c.in_ok-with_capacity.ensures.items;
     cursor = refl;
     carried = tt;
     born = tt;
-    short = subst (λ (copies : List FrameCopy). AllByRecursion (λ (copy : FrameCopy). length copy.frame ≤ 70000) copies) (sym c.new.ensures.items) tt;
+    short = subst (λ (copies : List FrameCopy). AllByRecursion (λ (copy : FrameCopy). length copy.frame ≤ 70000) copies) (sym c.in_ok-with_capacity.ensures.items) tt;
     weight = refl;
     placed = placed_at_start c.args.scenario.now.limits c.args.scenario.now.systems;
   };
