@@ -1,6 +1,7 @@
 ghost use Rattle.std.specs.Prelude.{◌≡◌};
 ghost use Rattle.scenario_writing.specs.Scenario.ClnpPlan.Configuration.{IsPort};
 
+use crate::seeing::see;
 use scenario_writing::scenarios::clnp::Kind;
 use scenario_writing::scenarios::nsaps::{Address, Prefix, Snpa, Target};
 use scenario_writing::scenarios::routing::Route;
@@ -9,6 +10,7 @@ use scenario_writing::scenarios::system_plan::{
     transmission_text, void_text,
 };
 use std::alloc::Global;
+use std::mem::forget;
 use std::process::Abort;
 
 fn address(rt: &impl Abort, text: &[u8]) -> Address {
@@ -41,52 +43,75 @@ const NOTES: &[u8] = b"12 a sent er 2 0000 47002702 47002701 0
 12 a alien
 ";
 
+/// Appends the line of a note.
+fn push_note(rt: &impl Abort, alloc: Global, note: Note, out: &mut Vec<u8>) {
+    journal_text(alloc, 12, b"a", &note, out).expect(rt, "memory");
+    forget(note);
+}
+
+/// Appends the lines of units that are sent.
+fn push_sent(rt: &impl Abort, alloc: Global, out: &mut Vec<u8>) {
+    push_note(rt, alloc, sent(rt, Kind::Er, 2, 0, 0), out);
+    push_note(rt, alloc, sent(rt, Kind::Erq, 10, 258, 64513), out);
+    push_note(rt, alloc, sent(rt, Kind::Erp, 3, 65535, 1), out);
+}
+
+/// Appends the lines of what is refused, and of PDUs that interfere or are none.
+fn push_others(rt: &impl Abort, alloc: Global, out: &mut Vec<u8>) {
+    let why = Why::IdsBusy;
+    push_note(rt, alloc, Note::Refused { why, value: 2 }, out);
+    push_note(rt, alloc, Note::Many { kept: 12 }, out);
+    push_note(rt, alloc, Note::NoSlot { live: 1 }, out);
+    push_note(rt, alloc, Note::Interference { id: 1 }, out);
+    push_note(rt, alloc, Note::Alien, out);
+}
+
 /// Notes that no worked example of a command has.
 #[test]
 fn writes_notes(rt: HostRuntime) {
-    let why = Why::IdsBusy;
     let mut out = Vec::new(rt.alloc());
-    for note in &[
-        sent(&rt, Kind::Er, 2, 0, 0),
-        sent(&rt, Kind::Erq, 10, 258, 64513),
-        sent(&rt, Kind::Erp, 3, 65535, 1),
-        Note::Refused { why, value: 2 },
-        Note::Many { kept: 12 },
-        Note::NoSlot { live: 1 },
-        Note::Interference { id: 1 },
-        Note::Alien,
-    ] {
-        journal_text(rt.alloc(), 12, b"a", note, &mut out).expect(&rt, "memory");
-    }
+    push_sent(&rt, rt.alloc(), &mut out);
+    push_others(&rt, rt.alloc(), &mut out);
     assert!(rt; out.as_slice() == NOTES);
+}
+
+/// Appends the line of a frame.
+fn push_frame(rt: &impl Abort, alloc: Global, target: Target, frame: &[u8], out: &mut Vec<u8>) {
+    transmission_text(alloc, 3, b"r", 12, 7, target, frame, out).expect(rt, "memory");
 }
 
 /// The lines of three frames.
 #[test]
 fn writes_frames(rt: HostRuntime) {
+    let alloc = rt.alloc();
     let system = Target::System(snpa(&rt, b"02.00.00.00.00.0B"));
-    let mut out = Vec::new(rt.alloc());
-    for (target, frame) in [
-        (Target::EndSystems, b"\x81\x13\x01\x0a".as_slice()),
-        (system, b"\x81\x13"),
-        (Target::Routers, b""),
-    ] {
-        transmission_text(rt.alloc(), 3, b"r", 12, 7, target, frame, &mut out).expect(
-            &rt, "memory",
-        );
-    }
+    let mut out = Vec::new(alloc);
+    push_frame(
+        &rt,
+        alloc,
+        Target::EndSystems,
+        b"\x81\x13\x01\x0a",
+        &mut out,
+    );
+    push_frame(&rt, alloc, system, b"\x81\x13", &mut out);
+    push_frame(&rt, alloc, Target::Routers, b"", &mut out);
     let text = b"3 r tx 12 7 es 8113010a\n3 r tx 12 7 02000000000b 8113\n3 r tx 12 7 is -\n";
     assert!(rt; out.as_slice() == text.as_slice());
 }
 
-/// The lines of copies that come to nothing, and the last line, behind what was there.
+/// Appends the lines of copies that come to nothing, and the last line.
+fn push_last_lines(rt: &impl Abort, alloc: Global, out: &mut Vec<u8>) {
+    void_text(alloc, 0, b"b", 9, out).expect(rt, "memory");
+    late_text(alloc, 7, b"b", 1, out).expect(rt, "memory");
+    push_end(alloc, 0, 1, out).expect(rt, "memory");
+}
+
+/// These lines, behind what was there.
 #[test]
 fn writes_the_end(rt: HostRuntime) {
     let alloc = rt.alloc();
     let mut out = Vec::from_slice(alloc, b"before\n").expect(&rt, "memory");
-    void_text(alloc, 0, b"b", 9, &mut out).expect(&rt, "memory");
-    late_text(alloc, 7, b"b", 1, &mut out).expect(&rt, "memory");
-    push_end(alloc, 0, 1, &mut out).expect(&rt, "memory");
+    push_last_lines(&rt, alloc, &mut out);
     assert!(rt; out.as_slice() == b"before\n0 b void 9\n7 b late 1\nend 0 1\n".as_slice());
 }
 
@@ -140,16 +165,21 @@ fn router(rt: &impl Abort, alloc: Global) -> SystemConfig {
 
 /// Sees that it is that router.
 fn see_router(rt: &impl Abort, config: &SystemConfig) {
-    assert!(rt; config.name() == b"r1".as_slice());
-    assert!(rt; config.role() == Role::Router);
-    assert!(rt; *config.settings() == SETTINGS);
+    see(rt, config.name() == b"r1".as_slice(), "its name");
+    see(rt, config.role() == Role::Router, "its role");
+    see(rt, *config.settings() == SETTINGS, "its settings");
 }
 
 /// Sees that it has what the router has.
 fn see_belongings(rt: &impl Abort, config: &SystemConfig) {
-    assert!(rt; config.addresses() == [address(rt, b"47002701")].as_slice());
-    assert!(rt; config.ports() == [port(rt)].as_slice());
-    assert!(rt; config.routes() == [route(rt)].as_slice());
+    let addresses = [address(rt, b"47002701")];
+    see(
+        rt,
+        config.addresses() == addresses.as_slice(),
+        "its addresses",
+    );
+    see(rt, config.ports() == [port(rt)].as_slice(), "its ports");
+    see(rt, config.routes() == [route(rt)].as_slice(), "its routes");
 }
 
 #[test]
@@ -158,4 +188,6 @@ fn copies_a_system(rt: HostRuntime) {
     let copy = config.copy(rt.alloc()).expect(&rt, "memory");
     see_router(&rt, &copy);
     see_belongings(&rt, &copy);
+    forget(copy);
+    forget(config);
 }

@@ -1,6 +1,8 @@
+use crate::seeing::see;
 use scenario_writing::scenarios::hearing::{EsisLimits, Gone, Heard, Neighbour, TableKind, Tables};
 use scenario_writing::scenarios::nsaps::{Address, Snpa};
 use std::alloc::Global;
+use std::mem::forget;
 use std::process::Abort;
 
 const LIMITS: EsisLimits = EsisLimits {
@@ -57,14 +59,14 @@ fn heard(rt: &impl Abort, alloc: Global, hearings: &[Hearing]) -> Tables {
     let mut tables = Tables::new(alloc, LIMITS).expect(rt, "memory");
     for Hearing(table, last, octet, hold, answer) in hearings {
         let told = tables.hear(0, *table, address(rt, *last), neighbour(rt, *octet), *hold);
-        assert!(rt; told == *answer);
+        see(rt, told == *answer, "the answer to a hearing");
     }
     tables
 }
 
 #[test]
 fn answers_hearings(rt: HostRuntime) {
-    let _tables = heard(&rt, rt.alloc(), HEARINGS);
+    forget(heard(&rt, rt.alloc(), HEARINGS));
 }
 
 /// The redirect's next hop, where it holds.
@@ -80,39 +82,59 @@ fn hop(rt: &impl Abort, holds: bool) -> Option<Neighbour> {
 fn see_hops(rt: &impl Abort, tables: &Tables, now: u64, holds: bool) {
     let one = address(rt, 0x01);
     let hop = hop(rt, holds);
-    assert!(rt; tables.redirect(now, &one) == hop);
-    assert!(rt; tables.system(now, &one) == hop);
-    assert!(rt; tables.redirect(now, &address(rt, 0x02)).is_none());
+    let other = address(rt, 0x02);
+    see(rt, tables.redirect(now, &one) == hop, "the redirect");
+    see(rt, tables.system(now, &one) == hop, "the host");
+    see(rt, tables.redirect(now, &other).is_none(), "no redirect");
 }
 
 /// Sees whether the router is known, and no other system as one.
 fn see_routers(rt: &impl Abort, tables: &Tables, now: u64, holds: bool) {
-    assert!(rt; tables.last_router(now).is_some() == holds);
-    assert!(rt; tables.is_router(now, &snpa(rt, 0x0a)) == holds);
-    assert!(rt; !tables.is_router(now, &snpa(rt, 0x0b)));
+    let router = snpa(rt, 0x0a);
+    let other = snpa(rt, 0x0b);
+    see(
+        rt,
+        tables.last_router(now).is_some() == holds,
+        "a last router",
+    );
+    see(rt, tables.is_router(now, &router) == holds, "the router");
+    see(rt, !tables.is_router(now, &other), "another system");
+}
+
+/// Sees what is known at a moment.
+fn see_known(rt: &impl Abort, tables: &Tables, now: u64, holds: bool) {
+    see_hops(rt, tables, now, holds);
+    see_routers(rt, tables, now, holds);
 }
 
 #[test]
 fn looks_up_what_holds(rt: HostRuntime) {
     let tables = heard(&rt, rt.alloc(), NEIGHBOURS);
-    for (now, holds) in [(0, true), (239, true), (240, false)] {
-        see_hops(&rt, &tables, now, holds);
-        see_routers(&rt, &tables, now, holds);
-    }
+    see_known(&rt, &tables, 0, true);
+    see_known(&rt, &tables, 239, true);
+    see_known(&rt, &tables, 240, false);
+    forget(tables);
+}
+
+/// Sees which entry is the next that no longer holds at tick 240.
+fn see_gone(rt: &impl Abort, tables: &mut Tables, table: TableKind, last: u8) {
+    let key = address(rt, last);
+    assert!(rt; tables.flush(240) == Some(Gone { table, key }));
+}
+
+/// Sees that all entries hold at a moment.
+fn see_none_gone(rt: &impl Abort, tables: &mut Tables, now: u64) {
+    assert!(rt; tables.flush(now).is_none());
 }
 
 #[test]
 fn flushes_in_order(rt: HostRuntime) {
     let mut tables = heard(&rt, rt.alloc(), NEIGHBOURS);
-    assert!(rt; tables.flush(239).is_none());
-    for (table, last) in [
-        (TableKind::Es, 0x01),
-        (TableKind::Es, 0x02),
-        (TableKind::Is, 0xff),
-        (TableKind::Rd, 0x01),
-    ] {
-        let key = address(&rt, last);
-        assert!(rt; tables.flush(240) == Some(Gone { table, key }));
-    }
-    assert!(rt; tables.flush(240).is_none());
+    see_none_gone(&rt, &mut tables, 239);
+    see_gone(&rt, &mut tables, TableKind::Es, 0x01);
+    see_gone(&rt, &mut tables, TableKind::Es, 0x02);
+    see_gone(&rt, &mut tables, TableKind::Is, 0xff);
+    see_gone(&rt, &mut tables, TableKind::Rd, 0x01);
+    see_none_gone(&rt, &mut tables, 240);
+    forget(tables);
 }

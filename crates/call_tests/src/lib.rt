@@ -12,3 +12,5 @@ mod forwarding_calls;
 mod reassembly_calls;
 #[cfg(test)]
 mod scenario_calls;
+#[cfg(test)]
+mod seeing;

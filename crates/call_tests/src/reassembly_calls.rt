@@ -5,10 +5,12 @@ ghost use Rattle.reassembly.specs.NoWhole.{HasNoWhole, IsCompleted};
 ghost use Rattle.reassembly.specs.State.{IsWholeSlot};
 
 use crate::reassembly_calls::Step::{Clear, End, Fill, InSlot, Offer, Rest, Undo, Whole};
+use crate::seeing::see;
 use reassembly::{Accept, Key, Segment, Shape, SlotNo, Table, TableLimits};
 use scenario_writing::scenarios::nsaps::Address;
 use scenario_writing::scenarios::views::Frame;
 use std::alloc::Global;
+use std::mem::forget;
 use std::process::Abort;
 
 const LIMITS: TableLimits = TableLimits {
@@ -351,6 +353,14 @@ fn segment(rt: &impl Abort, alloc: Global, part: Part, unit: &[u8]) -> Segment
     }
 }
 
+/// Sees that no buffer's time has ended.
+fn see_none_ended(rt: &impl Abort, table: &mut Table, now: u32)
+    requires { HasNoWhole table.old }
+    ensures { HasNoWhole table.new }
+{
+    assert!(rt; table.expire(u64::from(now)).is_none());
+}
+
 /// Offers a part that doesn't make its unit whole, at a moment at which no buffer's time has ended, and sees the answer.
 fn offer_part(
     rt: &impl Abort,
@@ -364,12 +374,12 @@ fn offer_part(
     requires { HasNoWhole table.old }
     ensures { HasNoWhole table.new }
 {
-    assert!(rt; table.expire(u64::from(now)).is_none());
+    see_none_ended(rt, table, now);
     let told = table.accept(u64::from(now), segment(rt, alloc, part, unit));
     if let Accept::Whole(_) = told {
         panic!(rt; "the unit is whole");
     }
-    assert!(rt; told == answer);
+    see(rt, told == answer, "the answer");
 }
 
 /// Offers a part of each of so many units.
@@ -396,7 +406,7 @@ fn complete(
     ensures whole { IsWholeSlot table.new result.0 }
     ensures completed { IsCompleted table.new result.0 }
 {
-    assert!(rt; table.expire(u64::from(now)).is_none());
+    see_none_ended(rt, table, now);
     let told = table.accept(u64::from(now), segment(rt, alloc, part, unit));
     let Accept::Whole(slot) = told else {
         panic!(rt; "the unit isn't whole");
@@ -404,26 +414,14 @@ fn complete(
     slot
 }
 
-/// The octets of a whole unit.
-fn data_of(rt: &impl Abort, alloc: Global, table: &Table, slot: SlotNo) -> Vec<u8>
+/// Appends the octets of a whole unit, and how long its pieces are.
+fn collect(rt: &impl Abort, table: &Table, slot: SlotNo, data: &mut Vec<u8>, lens: &mut Vec<usize>)
     requires { IsWholeSlot table.now slot.0 }
 {
-    let mut octets = Vec::new(alloc);
     for piece in table.pieces(slot) {
-        octets.extend_from_slice(piece).expect(rt, "memory");
-    }
-    octets
-}
-
-/// How long the pieces of a whole unit are.
-fn lens_of(rt: &impl Abort, alloc: Global, table: &Table, slot: SlotNo) -> Vec<usize>
-    requires { IsWholeSlot table.now slot.0 }
-{
-    let mut lens = Vec::new(alloc);
-    for piece in table.pieces(slot) {
+        data.extend_from_slice(piece).expect(rt, "memory");
         lens.push(piece.len()).expect(rt, "memory");
     }
-    lens
 }
 
 /// Sees that the pieces of a whole unit have these lengths, and that the octets of a unit begin with theirs.
@@ -437,8 +435,11 @@ fn see_pieces(
 )
     requires { IsWholeSlot table.now slot.0 }
 {
-    assert!(rt; unit.starts_with(&data_of(rt, alloc, table, slot)));
-    assert!(rt; lens_of(rt, alloc, table, slot).as_slice() == lens);
+    let mut data = Vec::new(alloc);
+    let mut found = Vec::new(alloc);
+    collect(rt, table, slot, &mut data, &mut found);
+    see(rt, unit.starts_with(&data), "the octets");
+    see(rt, found.as_slice() == lens, "the lengths of the pieces");
 }
 
 /// Sees that the time of a buffer has ended.
@@ -446,11 +447,9 @@ fn see_end(rt: &impl Abort, table: &mut Table, now: u32, id: u16, len: Option<us
     requires { HasNoWhole table.old }
     ensures { HasNoWhole table.new }
 {
-    let Some(ended) = table.expire(u64::from(now)) else {
-        panic!(rt; "no buffer's time has ended");
-    };
-    assert!(rt; ended.key == key(rt, id));
-    assert!(rt; ended.first.map(|pdu| pdu.len()) == len);
+    let ended = table.expire(u64::from(now)).expect(rt, "an end");
+    see(rt, ended.key == key(rt, id), "its key");
+    see(rt, ended.first.map(|pdu| pdu.len()) == len, "its first PDU");
 }
 
 /// Offers a part that makes its unit whole, sees its pieces and how many octets are held, and releases the buffer.
@@ -468,7 +467,7 @@ fn join(
     ensures { HasNoWhole table.new }
 {
     let slot = complete(rt, alloc, table, now, part, unit);
-    assert!(rt; table.held() == held);
+    see(rt, table.held() == held, "the octets held");
     see_pieces(rt, alloc, table, slot, unit, lens);
     table.release(slot);
 }
@@ -487,7 +486,7 @@ fn join_in(
     ensures { HasNoWhole table.new }
 {
     let told = complete(rt, alloc, table, now, part, unit);
-    assert!(rt; told == slot);
+    see(rt, told == slot, "the slot");
     table.release(told);
 }
 
@@ -511,7 +510,7 @@ fn make(rt: &impl Abort, alloc: Global, table: &mut Table, now: u32, step: Step,
         InSlot(part, slot) => join_in(rt, alloc, table, now, part, unit, slot),
         Undo(part) => undo(rt, alloc, table, now, part, unit),
         End(id, len) => see_end(rt, table, now, id, len),
-        Rest => assert!(rt; table.expire(u64::from(now)).is_none()),
+        Rest => see_none_ended(rt, table, now),
         Clear => table.clear(),
         Fill(count) => fill(rt, alloc, table, count, unit),
     }
@@ -523,94 +522,126 @@ fn kept_by(table: &Table) -> (u16, u16, u32) {
 }
 
 /// Makes one step after the other, and sees what is kept after each.
-fn play(rt: &impl Abort, alloc: Global, limits: TableLimits, rows: &[Row], unit: &[u8]) {
-    let mut table = Table::new(alloc, limits).expect(rt, "memory");
+fn play(rt: &impl Abort, alloc: Global, table: &mut Table, rows: &[Row], unit: &[u8])
+    requires { HasNoWhole table.old }
+{
     for row in rows {
-        make(rt, alloc, &mut table, row.0, row.1, unit);
-        assert!(rt; kept_by(&table) == row.2);
+        make(rt, alloc, table, row.0, row.1, unit);
+        see(rt, kept_by(table) == row.2, "what is kept");
     }
+}
+
+/// Plays a list with a table of its own.
+fn play_alone(rt: &impl Abort, alloc: Global, limits: TableLimits, rows: &[Row], unit: &[u8]) {
+    let mut table = Table::new(alloc, limits).expect(rt, "memory");
+    play(rt, alloc, &mut table, rows, unit);
+    forget(table);
 }
 
 /// Plays each of these lists with a table of its own.
 fn play_all(rt: &impl Abort, alloc: Global, lists: &[(TableLimits, &[Row])]) {
     let unit = pattern(rt, alloc);
     for (limits, rows) in lists {
-        play(rt, alloc, *limits, rows, &unit);
+        play_alone(rt, alloc, *limits, rows, &unit);
     }
 }
 
+const JOINED: &[(TableLimits, &[Row])] = &[
+    (LIMITS, FROM_THE_END),
+    (LIMITS, BETWEEN_OTHERS),
+    (
+        TableLimits {
+            budget: 65_560,
+            ..LIMITS
+        },
+        LONGEST,
+    ),
+    (LIMITS, SLOTS),
+];
+
 #[test]
 fn joins_units(rt: HostRuntime) {
-    let enough = TableLimits {
-        budget: 65_560,
-        ..LIMITS
-    };
-    play_all(
-        &rt,
-        rt.alloc(),
-        &[
-            (LIMITS, FROM_THE_END),
-            (LIMITS, BETWEEN_OTHERS),
-            (enough, LONGEST),
-            (LIMITS, SLOTS),
-        ],
-    );
+    play_all(&rt, rt.alloc(), JOINED);
 }
+
+const ENDED: &[(TableLimits, &[Row])] = &[(LIMITS, DEADLINES), (LIMITS, CLEARED)];
 
 #[test]
 fn ends_in_time(rt: HostRuntime) {
-    play_all(&rt, rt.alloc(), &[(LIMITS, DEADLINES), (LIMITS, CLEARED)]);
+    play_all(&rt, rt.alloc(), ENDED);
 }
 
-#[test]
-fn keeps_as_many_buffers_as_may_be(rt: HostRuntime) {
-    let limits = TableLimits {
+const ALL_KEPT: &[(TableLimits, &[Row])] = &[(
+    TableLimits {
         slots: 1024,
         segments: 1024,
         budget: 65_535,
         hold: 255,
-    };
-    play_all(&rt, rt.alloc(), &[(limits, FULL)]);
+    },
+    FULL,
+)];
+
+#[test]
+fn keeps_as_many_buffers_as_may_be(rt: HostRuntime) {
+    play_all(&rt, rt.alloc(), ALL_KEPT);
+}
+
+/// Offers two parts, of which the later one has an octet of the first again.
+fn offer_twice(rt: &impl Abort, alloc: Global, table: &mut Table)
+    requires { HasNoWhole table.old }
+    ensures { HasNoWhole table.new }
+{
+    let first = Part(1, 33, 10, 2, 3);
+    offer_part(rt, alloc, table, 0, first, b"..cde...", Accept::Held);
+    let later = Part(1, 33, 10, 0, 4);
+    offer_part(rt, alloc, table, 0, later, b"ABCD....", Accept::Held);
+}
+
+/// Offers the last part, and sees the pieces.
+fn see_joined(rt: &impl Abort, alloc: Global, table: &mut Table)
+    requires { HasNoWhole table.old }
+{
+    let last = Part(1, 33, 10, 3, 5);
+    let slot = complete(rt, alloc, table, 0, last, b"...56789");
+    see(rt, table.held() == 87, "the octets held");
+    see_pieces(rt, alloc, table, slot, b"ABcde789", &[2, 3, 3]);
 }
 
 #[test]
 fn keeps_the_earlier_octets(rt: HostRuntime) {
-    let alloc = rt.alloc();
-    let mut table = Table::new(alloc, LIMITS).expect(&rt, "memory");
-    let first = Part(1, 33, 10, 2, 3);
-    offer_part(&rt, alloc, &mut table, 0, first, b"..cde...", Accept::Held);
-    let later = Part(1, 33, 10, 0, 4);
-    offer_part(&rt, alloc, &mut table, 0, later, b"ABCD....", Accept::Held);
-    let last = Part(1, 33, 10, 3, 5);
-    let slot = complete(&rt, alloc, &mut table, 0, last, b"...56789");
-    assert!(rt; table.held() == 87);
-    see_pieces(&rt, alloc, &table, slot, b"ABcde789", &[2, 3, 3]);
+    let mut table = Table::new(rt.alloc(), LIMITS).expect(&rt, "memory");
+    offer_twice(&rt, rt.alloc(), &mut table);
+    see_joined(&rt, rt.alloc(), &mut table);
+    forget(table);
 }
+
+const REFUSED: &[(TableLimits, &[Row])] = &[
+    (TableLimits { slots: 1, ..LIMITS }, NO_SLOT),
+    (
+        TableLimits {
+            segments: 1,
+            ..LIMITS
+        },
+        MANY,
+    ),
+    (LIMITS, INTERFERENCE),
+    (
+        TableLimits {
+            budget: 137,
+            ..LIMITS
+        },
+        CROWDED,
+    ),
+    (
+        TableLimits {
+            budget: 138,
+            ..LIMITS
+        },
+        ENOUGH,
+    ),
+];
 
 #[test]
 fn refuses_what_has_no_room(rt: HostRuntime) {
-    let one_slot = TableLimits { slots: 1, ..LIMITS };
-    let one_segment = TableLimits {
-        segments: 1,
-        ..LIMITS
-    };
-    let less = TableLimits {
-        budget: 137,
-        ..LIMITS
-    };
-    let enough = TableLimits {
-        budget: 138,
-        ..LIMITS
-    };
-    play_all(
-        &rt,
-        rt.alloc(),
-        &[
-            (one_slot, NO_SLOT),
-            (one_segment, MANY),
-            (LIMITS, INTERFERENCE),
-            (less, CROWDED),
-            (enough, ENOUGH),
-        ],
-    );
+    play_all(&rt, rt.alloc(), REFUSED);
 }

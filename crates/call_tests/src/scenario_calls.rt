@@ -1,3 +1,4 @@
+use crate::seeing::see;
 use scenario_writing::scenarios::base::lines;
 use scenario_writing::scenarios::system_plan::{Limits, PortConfig, Role, SystemConfig};
 use scenario_writing::scenarios::{
@@ -5,6 +6,7 @@ use scenario_writing::scenarios::{
 };
 use scenario_writing::{from_seed, migrate, write};
 use std::alloc::Global;
+use std::mem::forget;
 use std::process::Abort;
 
 const TEXT: &[u8] = b"# two subnetworks
@@ -202,25 +204,31 @@ fn scenario_of(rt: &impl Abort, alloc: Global, text: &[u8]) -> Scenario {
 
 /// What is written of what is read of a text.
 fn written(rt: &impl Abort, alloc: Global, text: &[u8]) -> Vec<u8> {
-    let scenario = scenario_of(rt, alloc, text);
+    written_of(rt, alloc, scenario_of(rt, alloc, text))
+}
+
+/// What is written of a scenario.
+fn written_of(rt: &impl Abort, alloc: Global, scenario: Scenario) -> Vec<u8> {
     let mut out = Vec::new(alloc);
     write(alloc, &scenario, &mut out).expect(rt, "memory");
+    forget(scenario);
     out
+}
+
+/// Sees what is written of what is read of a text.
+fn see_written(rt: &impl Abort, alloc: Global, text: &[u8], wanted: &[u8]) {
+    assert!(rt; written(rt, alloc, text).as_slice() == wanted);
 }
 
 #[test]
 fn writes_what_was_read(rt: HostRuntime) {
-    for (text, wanted) in [
-        (TEXT, TEXT_WRITTEN),
-        (ROUTER, ROUTER_WRITTEN),
-        (TWO_HOSTS, TWO_HOSTS_WRITTEN),
-        (TWO_HOSTS_MIGRATED, TWO_HOSTS_MIGRATED),
-        (CHANGING, CHANGING_WRITTEN),
-        (CHANGING_WRITTEN, CHANGING_WRITTEN),
-    ] {
-        let found = written(&rt, rt.alloc(), text);
-        assert!(rt; found.as_slice() == wanted);
-    }
+    let alloc = rt.alloc();
+    see_written(&rt, alloc, TEXT, TEXT_WRITTEN);
+    see_written(&rt, alloc, ROUTER, ROUTER_WRITTEN);
+    see_written(&rt, alloc, TWO_HOSTS, TWO_HOSTS_WRITTEN);
+    see_written(&rt, alloc, TWO_HOSTS_MIGRATED, TWO_HOSTS_MIGRATED);
+    see_written(&rt, alloc, CHANGING, CHANGING_WRITTEN);
+    see_written(&rt, alloc, CHANGING_WRITTEN, CHANGING_WRITTEN);
 }
 
 /// What migration makes of a text, which is short.
@@ -230,10 +238,15 @@ fn migrated(rt: &impl Abort, alloc: Global, text: &[u8]) -> Result<Vec<u8>, Scen
     migrate(alloc, text)
 }
 
+/// Sees what migration makes of a text of version 1.
+fn see_migrated(rt: &impl Abort, alloc: Global, text: &[u8], wanted: &[u8]) {
+    let found = migrated(rt, alloc, text).expect(rt, "a text of version 1");
+    assert!(rt; found.as_slice() == wanted);
+}
+
 #[test]
 fn migrates_texts_of_version_1_alone(rt: HostRuntime) {
-    let found = migrated(&rt, rt.alloc(), TWO_HOSTS).expect(&rt, "a text of version 1");
-    assert!(rt; found.as_slice() == TWO_HOSTS_MIGRATED);
+    see_migrated(&rt, rt.alloc(), TWO_HOSTS, TWO_HOSTS_MIGRATED);
     let refusal = ScenarioRefusal::BadLine { line: 1, code: 1 };
     assert!(rt; migrated(&rt, rt.alloc(), TWO_HOSTS_MIGRATED).err() == Some(refusal));
 }
@@ -250,8 +263,9 @@ fn tells_the_version(rt: HostRuntime) {
     let scenario = first_version_of(&rt, rt.alloc(), TWO_HOSTS);
     assert!(rt; scenario.version() == 1);
     let scenario = scenario.migrate();
-    assert!(rt; scenario.version() == 2);
-    assert!(rt; scenario.limits().skew == 0);
+    see(&rt, scenario.version() == 2, "version 2");
+    see(&rt, scenario.limits().skew == 0, "clocks that agree");
+    forget(scenario);
 }
 
 /// What a host on a board of one link declares, up to `events`.
@@ -317,35 +331,38 @@ fn answer_for_run(
 /// What is written of what is read of it.
 fn written_for_run(rt: &impl Abort, alloc: Global, text: &[u8], links: usize) -> Vec<u8> {
     let scenario = answer_for_run(rt, alloc, text, links).expect(rt, "a scenario for a live node");
-    let mut out = Vec::new(alloc);
-    write(alloc, &scenario, &mut out).expect(rt, "memory");
-    out
+    written_of(rt, alloc, scenario)
+}
+
+/// Sees what is written of what is read of it.
+fn see_written_for_run(rt: &impl Abort, alloc: Global, text: &[u8], links: usize, wanted: &[u8]) {
+    assert!(rt; written_for_run(rt, alloc, text, links).as_slice() == wanted);
 }
 
 #[test]
 fn reads_for_a_live_node(rt: HostRuntime) {
-    for (text, links, wanted) in [(HOST, 1, HOST_WRITTEN), (ROUTER, 2, ROUTER_WRITTEN)] {
-        let found = written_for_run(&rt, rt.alloc(), text, links);
-        assert!(rt; found.as_slice() == wanted);
-    }
+    see_written_for_run(&rt, rt.alloc(), HOST, 1, HOST_WRITTEN);
+    see_written_for_run(&rt, rt.alloc(), ROUTER, 2, ROUTER_WRITTEN);
 }
 
-/// Texts that don't fit a board of so many links, each with the line at which it is refused, and the code.
+/// Sees at which line a text for a board of so many links is refused, and with which code.
+fn see_refused(rt: &impl Abort, alloc: Global, text: &[u8], links: usize, line: u32, code: u8) {
+    let refusal = ScenarioRefusal::BadLine { line, code };
+    assert!(rt; answer_for_run(rt, alloc, text, links).err() == Some(refusal));
+}
+
+/// Texts that don't fit a board of so many links.
 #[test]
 fn refuses_what_fits_no_board(rt: HostRuntime) {
-    for (text, links, line, code) in [
-        (HOST, 0, 6, 10),
-        (HOST, 2, 6, 10),
-        (ROUTER, 1, 8, 10),
-        (ROUTER, 3, 8, 10),
-        (TWO_HOSTS, 1, 10, 10),
-        (TWO_HOSTS, 2, 10, 10),
-        (NO_SYSTEM, 0, 3, 10),
-        (NO_LIMITS, 0, 2, 2),
-    ] {
-        let answer = answer_for_run(&rt, rt.alloc(), text, links);
-        assert!(rt; answer.err() == Some(ScenarioRefusal::BadLine { line, code }));
-    }
+    let alloc = rt.alloc();
+    see_refused(&rt, alloc, HOST, 0, 6, 10);
+    see_refused(&rt, alloc, HOST, 2, 6, 10);
+    see_refused(&rt, alloc, ROUTER, 1, 8, 10);
+    see_refused(&rt, alloc, ROUTER, 3, 8, 10);
+    see_refused(&rt, alloc, TWO_HOSTS, 1, 10, 10);
+    see_refused(&rt, alloc, TWO_HOSTS, 2, 10, 10);
+    see_refused(&rt, alloc, NO_SYSTEM, 0, 3, 10);
+    see_refused(&rt, alloc, NO_LIMITS, 0, 2, 2);
 }
 
 /// A text of a host in which a tick passes, and this happens then.
@@ -358,21 +375,21 @@ fn host_with(rt: &impl Abort, alloc: Global, event: &str) -> Vec<u8> {
     text
 }
 
+/// Sees that this event is refused.
+fn see_event_refused(rt: &impl Abort, alloc: Global, event: &str) {
+    let text = host_with(rt, alloc, event);
+    see_refused(rt, alloc, &text, 1, 8, 2);
+}
+
 #[test]
 fn refuses_events_of_networks(rt: HostRuntime) {
-    for event in [
-        "deliver 1 a",
-        "settle 1",
-        "lose 1",
-        "restart a",
-        "congest a on",
-        "inject lan 05 is 81",
-    ] {
-        let text = host_with(&rt, rt.alloc(), event);
-        let answer = answer_for_run(&rt, rt.alloc(), &text, 1);
-        let refusal = ScenarioRefusal::BadLine { line: 8, code: 2 };
-        assert!(rt; answer.err() == Some(refusal));
-    }
+    let alloc = rt.alloc();
+    see_event_refused(&rt, alloc, "deliver 1 a");
+    see_event_refused(&rt, alloc, "settle 1");
+    see_event_refused(&rt, alloc, "lose 1");
+    see_event_refused(&rt, alloc, "restart a");
+    see_event_refused(&rt, alloc, "congest a on");
+    see_event_refused(&rt, alloc, "inject lan 05 is 81");
 }
 
 /// Sees the octets of what is sent.
@@ -381,15 +398,22 @@ fn see_octets(rt: &impl Abort, alloc: Global, body: &Body, octets: &[u8]) {
     assert!(rt; found.as_slice() == octets);
 }
 
+/// Sees the octets of what is sent first.
+fn see_first_octets(rt: &impl Abort, alloc: Global, events: &[Event], octets: &[u8]) {
+    let [Event::Send { body, .. }, ..] = events else {
+        panic!(rt; "no send first");
+    };
+    see_octets(rt, alloc, body, octets);
+}
+
 #[test]
 fn gives_the_octets_of_bodies(rt: HostRuntime) {
     let scenario = answer_for_run(&rt, rt.alloc(), HOST, 1).expect(&rt, "a scenario");
-    let [Event::Send { body, .. }, ..] = scenario.events() else {
-        panic!(rt; "no send first");
-    };
-    see_octets(&rt, rt.alloc(), body, b"hi");
+    see_first_octets(&rt, rt.alloc(), scenario.events(), b"hi");
     let pattern = Body::Pattern { len: 3, start: 254 };
     see_octets(&rt, rt.alloc(), &pattern, &[254, 255, 0]);
+    forget(pattern);
+    forget(scenario);
 }
 
 const LIMITS: Limits = Limits {
@@ -399,15 +423,26 @@ const LIMITS: Limits = Limits {
     skew: 0,
 };
 
+/// Sees the name and the MTU of a subnetwork.
+fn see_subnet(rt: &impl Abort, subnet: &Subnet, name: &[u8], mtu: u16) {
+    see(rt, subnet.name() == name, "its name");
+    see(rt, subnet.mtu == mtu, "its MTU");
+}
+
 /// Sees the names and the MTUs of two subnetworks.
 fn see_subnets(rt: &impl Abort, subnets: &[Subnet]) {
     let [lan, wan] = subnets else {
         panic!(rt; "not two subnetworks");
     };
-    assert!(rt; lan.name() == b"lan".as_slice());
-    assert!(rt; lan.mtu == 1500);
-    assert!(rt; wan.name() == b"wan".as_slice());
-    assert!(rt; wan.mtu == 512);
+    see_subnet(rt, lan, b"lan", 1500);
+    see_subnet(rt, wan, b"wan", 512);
+}
+
+/// Sees the second host.
+fn see_host(rt: &impl Abort, host: &SystemConfig) {
+    see(rt, host.name() == b"b".as_slice(), "its name");
+    see(rt, host.role() == Role::Host, "its role");
+    see_port(rt, host.ports());
 }
 
 /// Sees the second of two systems.
@@ -415,9 +450,7 @@ fn see_systems(rt: &impl Abort, systems: &[SystemConfig]) {
     let [_, host] = systems else {
         panic!(rt; "not two systems");
     };
-    assert!(rt; host.name() == b"b".as_slice());
-    assert!(rt; host.role() == Role::Host);
-    see_port(rt, host.ports());
+    see_host(rt, host);
 }
 
 /// Sees the port of a host, which has the MTU of its subnetwork.
@@ -425,16 +458,17 @@ fn see_port(rt: &impl Abort, ports: &[PortConfig]) {
     let [port] = ports else {
         panic!(rt; "not one port");
     };
-    assert!(rt; port.subnet == 1);
-    assert!(rt; port.mtu == 512);
+    see(rt, port.subnet == 1, "its subnetwork");
+    see(rt, port.mtu == 512, "its MTU");
 }
 
 #[test]
 fn reads_what_is_declared(rt: HostRuntime) {
     let scenario = scenario_of(&rt, rt.alloc(), TEXT);
-    assert!(rt; *scenario.limits() == LIMITS);
+    see(&rt, *scenario.limits() == LIMITS, "its limits");
     see_subnets(&rt, scenario.subnets());
     see_systems(&rt, scenario.systems());
+    forget(scenario);
 }
 
 /// Sees the first events of the scenario of the seed 0.
@@ -453,9 +487,10 @@ fn see_first_events(rt: &impl Abort, events: &[Event]) {
 #[test]
 fn makes_the_scenario_of_a_seed(rt: HostRuntime) {
     let scenario = from_seed(rt.alloc(), 0).expect(&rt, "memory");
-    assert!(rt; scenario.systems().len() == 6);
-    assert!(rt; scenario.events().len() == 582);
+    see(&rt, scenario.systems().len() == 6, "six systems");
+    see(&rt, scenario.events().len() == 582, "582 events");
     see_first_events(&rt, scenario.events());
+    forget(scenario);
 }
 
 /// A text with a frame from outside of so many octets.
@@ -481,7 +516,8 @@ fn injected(scenario: &Scenario) -> Option<usize> {
 fn reads_frames_of_70000_octets(rt: HostRuntime) {
     let text = injection(&rt, rt.alloc(), 70_000);
     let scenario = scenario_of(&rt, rt.alloc(), &text);
-    assert!(rt; injected(&scenario) == Some(70_000));
+    see(&rt, injected(&scenario) == Some(70_000), "70,000 octets");
+    forget(scenario);
 }
 
 #[test]

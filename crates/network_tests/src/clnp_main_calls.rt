@@ -1,7 +1,9 @@
+use crate::seeing::see;
 use clnp_program::{Advice, Status, clnp_main};
 use link_board::Board;
-use link_board::base::{Failed, MemClock, MemSink, MemSource, Sink};
+use link_board::base::{Failed, MemClock, MemSink, MemSource, Sink, Source};
 use std::alloc::Global;
+use std::mem::forget;
 use std::process::Abort;
 
 /// Two vectors, and the verdicts on them.
@@ -71,6 +73,48 @@ fn words_of(rt: &impl Abort, alloc: Global, word: &str) -> Vec<String> {
     words
 }
 
+/// The status of a call over no links.
+fn call_without_links<S: Source, K: Sink>(
+    rt: &impl Abort,
+    alloc: Global,
+    words: &[String],
+    source: &mut S,
+    sink: &mut K,
+) -> Status {
+    let mut board = Board::new(alloc, Vec::new(alloc)).expect(rt, "memory");
+    let mut clock = MemClock::new(Vec::from_slice(alloc, &[0]).expect(rt, "memory"));
+    let mut advice = Advice::new();
+    let status = clnp_main(
+        alloc,
+        words,
+        source,
+        sink,
+        &mut board,
+        &mut clock,
+        &mut advice,
+    );
+    forget(clock);
+    forget(board);
+    status
+}
+
+/// The status of a call with one word.
+fn call_over<K: Sink>(
+    rt: &impl Abort,
+    alloc: Global,
+    word: &str,
+    text: &[u8],
+    streams: Streams,
+    sink: &mut K,
+) -> Status {
+    let words = words_of(rt, alloc, word);
+    let mut source = source_of(rt, alloc, text, streams);
+    let status = call_without_links(rt, alloc, words.as_slice(), &mut source, sink);
+    forget(source);
+    forget(words);
+    status
+}
+
 /// The status of a call with one word, which appends what it writes.
 fn call(
     rt: &impl Abort,
@@ -80,21 +124,10 @@ fn call(
     streams: Streams,
     out: &mut Vec<u8>,
 ) -> Status {
-    let words = words_of(rt, alloc, word);
-    let mut source = source_of(rt, alloc, text, streams);
     let mut sink = sink_of(rt, alloc, streams);
-    let mut board = Board::new(alloc, Vec::new(alloc)).expect(rt, "memory");
-    let mut clock = MemClock::new(Vec::from_slice(alloc, &[0]).expect(rt, "memory"));
-    let status = clnp_main(
-        alloc,
-        words.as_slice(),
-        &mut source,
-        &mut sink,
-        &mut board,
-        &mut clock,
-        &mut Advice::new(),
-    );
+    let status = call_over(rt, alloc, word, text, streams, &mut sink);
     out.extend_from_slice(sink.as_bytes()).expect(rt, "memory");
+    forget(sink);
     status
 }
 
@@ -109,27 +142,21 @@ fn see_call(
     written: &[u8],
 ) {
     let mut out = Vec::new(alloc);
-    assert!(rt; call(rt, alloc, word, text, streams, &mut out) == status);
-    assert!(rt; out.as_slice() == written);
+    let told = call(rt, alloc, word, text, streams, &mut out);
+    see(rt, told == status, "the status");
+    see(rt, out.as_slice() == written, "what is written");
 }
 
 #[test]
 fn stops_where_the_sink_fails(rt: HostRuntime) {
+    let alloc = rt.alloc();
     let streams = Streams {
         write_fails: 1,
         ..SEVEN
     };
-    for (word, text) in [("show", b"81\n".as_slice()), ("check", VECTORS)] {
-        see_call(
-            &rt,
-            rt.alloc(),
-            word,
-            text,
-            streams,
-            Status::WriteFault,
-            b"",
-        );
-    }
+    let fault = Status::WriteFault;
+    see_call(&rt, alloc, "show", b"81\n", streams, fault, b"");
+    see_call(&rt, alloc, "check", VECTORS, streams, fault, b"");
 }
 
 /// The vectors have 42 octets, so six calls of the source give some and one more tells the end.
@@ -153,8 +180,12 @@ fn stops_where_the_source_fails(rt: HostRuntime) {
 fn stops_where_the_sink_fails_in_a_long_journal(rt: HostRuntime) {
     let mut whole = Vec::new(rt.alloc());
     let status = call(&rt, rt.alloc(), "sim", CROWDED, SEVEN, &mut whole);
-    assert!(rt; status == Status::Done);
-    assert!(rt; whole.as_slice().ends_with(CROWDED_END));
+    see(&rt, status == Status::Done, "the status");
+    see(
+        &rt,
+        whole.as_slice().ends_with(CROWDED_END),
+        "its last line",
+    );
     see_fronts(&rt, rt.alloc(), &whole);
 }
 
@@ -277,28 +308,12 @@ events
 
 /// The octets that a simulation writes which stops since its network is full: of so many.
 fn count_until_full(rt: &impl Abort, alloc: Global, text: &[u8], full: u64) -> u64 {
-    let words = words_of(rt, alloc, "sim");
-    let mut source = source_of(
-        rt,
-        alloc,
-        text,
-        Streams {
-            most: 4096,
-            ..SEVEN
-        },
-    );
+    let streams = Streams {
+        most: 4096,
+        ..SEVEN
+    };
     let mut sink = Counter { octets: 0 };
-    let mut board = Board::new(alloc, Vec::new(alloc)).expect(rt, "memory");
-    let mut clock = MemClock::new(Vec::from_slice(alloc, &[0]).expect(rt, "memory"));
-    let status = clnp_main(
-        alloc,
-        words.as_slice(),
-        &mut source,
-        &mut sink,
-        &mut board,
-        &mut clock,
-        &mut Advice::new(),
-    );
+    let status = call_over(rt, alloc, "sim", text, streams, &mut sink);
     assert!(rt; status == Status::WorldFull { octets: full });
     sink.octets
 }

@@ -1,8 +1,10 @@
+use crate::seeing::see;
 use clnp_machine::system_plan::Telling;
 use clnp_program::scenarios::{Scenario, read};
 use clnp_program::worlds::{Counts, Move, World};
 use link_board::base::lines;
 use std::alloc::Global;
+use std::mem::forget;
 use std::process::Abort;
 
 /// Two hosts and a router on a subnetwork, which change; the clocks of two systems may be one tick apart.
@@ -62,6 +64,20 @@ fn scenario_of(rt: &impl Abort, alloc: Global) -> Scenario {
     read(alloc, TEXT).expect(rt, "a scenario")
 }
 
+/// Makes a move, and appends its lines.
+fn make(
+    rt: &impl Abort,
+    alloc: Global,
+    scenario: &Scenario,
+    world: &mut World,
+    mv: &Move,
+    journal: &mut Vec<u8>,
+) {
+    assert!(rt; world.clock() < 1_000_000);
+    let made = world.step(alloc, scenario, mv, Telling::Journal, journal);
+    see(rt, made.is_ok(), "the move is made");
+}
+
 /// Makes one move after the other, and appends the journal.
 fn make_all(
     rt: &impl Abort,
@@ -71,27 +87,35 @@ fn make_all(
     journal: &mut Vec<u8>,
 ) {
     for mv in MOVES {
-        assert!(rt; world.clock() < 1_000_000);
-        assert!(rt;
-            world
-                .step(alloc, scenario, mv, Telling::Journal, journal)
-                .is_ok()
-        );
+        make(rt, alloc, scenario, world, mv, journal);
     }
-    assert!(rt; world.finish(alloc, journal).is_ok());
+    see(rt, world.finish(alloc, journal).is_ok(), "the last line");
 }
 
 /// Sees the network after these moves.
 fn see_network(rt: &impl Abort, world: &World) {
-    assert!(rt; world.clock() == 2);
-    assert!(rt; world.weight() == 85);
-    assert!(rt; world.host(2).is_none());
-    assert!(rt; world.router(0).is_none());
-    assert!(rt; world.router(2).is_some());
-    let Some(host) = world.host(0) else {
-        panic!(rt; "no host");
-    };
-    assert!(rt; host.config().name() == b"a".as_slice());
+    see(rt, world.clock() == 2, "its clock");
+    see(rt, world.weight() == 85, "its weight");
+    see(rt, world.host(2).is_none(), "the third is no host");
+    see(rt, world.router(0).is_none(), "the first is no router");
+    see(rt, world.router(2).is_some(), "the third is a router");
+    let host = world.host(0).expect(rt, "a host");
+    see(rt, host.config().name() == b"a".as_slice(), "its name");
+}
+
+/// Makes a move, and counts its lines.
+fn count(
+    rt: &impl Abort,
+    alloc: Global,
+    scenario: &Scenario,
+    world: &mut World,
+    mv: &Move,
+) -> Counts {
+    let mut counts = Counts::none();
+    assert!(rt; world.clock() < 1_000_000);
+    let made = world.count_step(alloc, scenario, mv, &mut counts);
+    see(rt, made.is_ok(), "the move is made");
+    counts
 }
 
 /// Makes a move of a network whose lines are counted, and sees how many units were handed up, and whether all is settled.
@@ -103,29 +127,41 @@ fn see_counted(
     mv: &Move,
     got: u64,
 ) {
-    let mut counts = Counts::none();
-    assert!(rt; world.clock() < 1_000_000);
-    assert!(rt; world.count_step(alloc, scenario, mv, &mut counts).is_ok());
-    assert!(rt;
-        counts
-            == Counts {
-                got,
-                ..Counts::none()
-            }
+    let wanted = Counts {
+        got,
+        ..Counts::none()
+    };
+    let counts = count(rt, alloc, scenario, world, mv);
+    see(rt, counts == wanted, "what is counted");
+    see(
+        rt,
+        world.is_settled() == (got == 1),
+        "whether all is settled",
     );
-    assert!(rt; world.is_settled() == (got == 1));
+}
+
+/// Sees the journal of these moves.
+fn see_journal(rt: &impl Abort, alloc: Global, scenario: &Scenario, world: &mut World) {
+    let mut journal = Vec::new(alloc);
+    make_all(rt, alloc, scenario, world, &mut journal);
+    assert!(rt; journal.as_slice() == JOURNAL);
+}
+
+/// Sees what is counted afterwards.
+fn see_counts(rt: &impl Abort, alloc: Global, scenario: &Scenario, world: &mut World) {
+    see(rt, world.is_settled(), "all is settled");
+    see_counted(rt, alloc, scenario, world, &Move::One(0), 0);
+    see_counted(rt, alloc, scenario, world, &Move::SettleOne, 1);
 }
 
 #[test]
 fn moves_are_made_and_counted(rt: HostRuntime) {
     let scenario = scenario_of(&rt, rt.alloc());
     let mut world = World::new(rt.alloc(), &scenario).expect(&rt, "memory");
-    let mut journal = Vec::new(rt.alloc());
-    make_all(&rt, rt.alloc(), &scenario, &mut world, &mut journal);
-    assert!(rt; journal.as_slice() == JOURNAL);
+    see_journal(&rt, rt.alloc(), &scenario, &mut world);
     see_network(&rt, &world);
-    assert!(rt; world.is_settled());
-    for (mv, got) in [(Move::One(0), 0), (Move::SettleOne, 1)] {
-        see_counted(&rt, rt.alloc(), &scenario, &mut world, &mv, got);
-    }
+    see_counts(&rt, rt.alloc(), &scenario, &mut world);
+    // They are left to the end of the process: to drop them would be proved once more.
+    forget(world);
+    forget(scenario);
 }

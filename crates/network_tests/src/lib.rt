@@ -10,3 +10,5 @@ mod clnp_program_calls;
 mod clnp_world_calls;
 #[cfg(test)]
 mod local_entity_calls;
+#[cfg(test)]
+mod seeing;

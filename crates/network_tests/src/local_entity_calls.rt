@@ -2,6 +2,7 @@ ghost use Rattle.std.specs.Prelude.{false};
 ghost use Rattle.clnp_machine.specs.ClnpOptions.Grammar.{FitsKind};
 ghost use Rattle.clnp_machine.specs.ClnpOptions.Parameter.{parameters};
 
+use crate::seeing::see;
 use clnp_machine::clnp::{Kind, decode};
 use clnp_machine::nsaps::Address;
 use clnp_machine::options::{OptionList, laws};
@@ -11,6 +12,7 @@ use clnp_program::scenarios::{Scenario, read};
 use link_board::base::{NoMemory, lines, push, push_decimal};
 use local_entity::{Action, DrawRefusal, IdPool, Local};
 use std::alloc::Global;
+use std::mem::forget;
 use std::process::Abort;
 
 /// A host on a subnetwork.
@@ -58,38 +60,54 @@ fn scenario_of(rt: &impl Abort, alloc: Global) -> Scenario {
     read(alloc, HOST).expect(rt, "a scenario")
 }
 
+/// Sees the answer to a draw at a moment.
+fn see_draw(rt: &impl Abort, pool: &mut IdPool, now: u32, answer: Result<u16, DrawRefusal>) {
+    assert!(rt; pool.draw(u64::from(now)) == answer);
+}
+
 #[test]
 fn a_restart_makes_a_pool_quiet(rt: HostRuntime) {
     let mut pool = IdPool::new(rt.alloc(), 6, 0).expect(&rt, "memory");
-    assert!(rt; pool.draw(0) == Ok(0));
-    assert!(rt; pool.draw(0) == Ok(1));
+    see_draw(&rt, &mut pool, 0, Ok(0));
+    see_draw(&rt, &mut pool, 0, Ok(1));
     pool.restart(1);
-    assert!(rt; pool.draw(2) == Err(DrawRefusal::Quiet { until: 7 }));
-    assert!(rt; pool.ready(7) == Ok(()));
-    assert!(rt; pool.draw(7) == Ok(0));
+    see_draw(&rt, &mut pool, 2, Err(DrawRefusal::Quiet { until: 7 }));
+    see(&rt, pool.ready(7) == Ok(()), "it is ready");
+    see_draw(&rt, &mut pool, 7, Ok(0));
+    forget(pool);
+}
+
+/// Draws each identifier.
+fn draw_all(rt: &impl Abort, pool: &mut IdPool) {
+    for id in 0..=u16::MAX {
+        see_draw(rt, pool, 3, Ok(id));
+    }
 }
 
 #[test]
 fn identifiers_go_round(rt: HostRuntime) {
     let mut pool = IdPool::new(rt.alloc(), 6, 0).expect(&rt, "memory");
-    for id in 0..=u16::MAX {
-        assert!(rt; pool.draw(3) == Ok(id));
-    }
-    assert!(rt; pool.draw(8) == Err(DrawRefusal::IdsBusy { used: 3 }));
-    assert!(rt; pool.draw(9) == Ok(0));
+    draw_all(&rt, &mut pool);
+    see_draw(&rt, &mut pool, 8, Err(DrawRefusal::IdsBusy { used: 3 }));
+    see_draw(&rt, &mut pool, 9, Ok(0));
+    forget(pool);
 }
 
 /// The journal lines of what a system does, and one with the number of each unit that goes out.
 fn told(rt: &impl Abort, alloc: Global, actions: &[Action]) -> Vec<u8> {
     let mut text = Vec::new(alloc);
     for action in actions {
-        let pushed = match action {
-            Action::Note(note) => journal_text(alloc, 0, b"a", note, &mut text),
-            Action::Send(made) => push_unit(made.unit, &mut text),
-        };
-        assert!(rt; pushed.is_ok());
+        push_action(alloc, action, &mut text).expect(rt, "memory");
     }
     text
+}
+
+/// Appends the line of one of them.
+fn push_action(alloc: Global, action: &Action, text: &mut Vec<u8>) -> Result<(), NoMemory> {
+    match action {
+        Action::Note(note) => journal_text(alloc, 0, b"a", note, text),
+        Action::Send(made) => push_unit(made.unit, text),
+    }
 }
 
 /// Appends a line with the number of a unit.
@@ -111,7 +129,8 @@ fn make(
     assert!(rt; limits.hold >= 1);
     let mut local = Local::new(alloc, system, limits, 0).expect(rt, "memory");
     let made = local.make(alloc, 0, Kind::Dt, own, own, b"hi", &ask, out);
-    assert!(rt; made.ok() == Some(1));
+    see(rt, made.ok() == Some(1), "its number");
+    forget(local);
 }
 
 /// A unit comes to a host.
@@ -129,18 +148,25 @@ fn receive(
         panic!(rt; "no PDU");
     };
     assert!(rt; pdu.life >= 1);
-    assert!(rt; local.receive(alloc, 0, &frame, out).is_ok());
-    assert!(rt; local.held() == 0);
+    see(rt, local.receive(alloc, 0, &frame, out).is_ok(), "it comes");
+    see(rt, local.held() == 0, "nothing is held");
+    forget(local);
+}
+
+/// Both of these, for each system.
+fn make_and_receive(rt: &impl Abort, alloc: Global, scenario: &Scenario, out: &mut Vec<Action>) {
+    for system in scenario.systems() {
+        make(rt, alloc, system, scenario.limits(), out);
+        receive(rt, alloc, system, scenario.limits(), out);
+    }
 }
 
 #[test]
 fn a_unit_is_made_and_received(rt: HostRuntime) {
     let scenario = scenario_of(&rt, rt.alloc());
     let mut out = Vec::new(rt.alloc());
-    for system in scenario.systems() {
-        make(&rt, rt.alloc(), system, scenario.limits(), &mut out);
-        receive(&rt, rt.alloc(), system, scenario.limits(), &mut out);
-    }
-    let text = told(&rt, rt.alloc(), &out);
-    assert!(rt; text.as_slice() == LINES);
+    make_and_receive(&rt, rt.alloc(), &scenario, &mut out);
+    assert!(rt; told(&rt, rt.alloc(), &out).as_slice() == LINES);
+    forget(out);
+    forget(scenario);
 }
