@@ -1,9 +1,9 @@
 //! Pages of runs: some runs of a unit that stand one behind the other.
-ghost use Rattle.std.specs.Prelude.{◌≡◌, ℕ, ◌+◌, ◌<◌, ◌≤◌, ◌++◌, [], ◌∷◌, length, map, take, drop, true, Some, IfNone, IfSome, OnSome};
+ghost use Rattle.std.specs.Prelude.{◌≡◌, ℕ, ◌+◌, ◌<◌, ◌≤◌, ◌++◌, [], ◌∷◌, length, map, nat_lt, take, drop, true, Some, IfNone, IfSome, OnSome};
 ghost use Rattle.std.specs.List.{AllByRecursion, list_any, position_from};
 ghost use Rattle.reassembly.specs.declared.runs.Run.{Run};
 ghost use Rattle.reassembly.specs.Pages.{IsApart, ends_behind};
-ghost use Rattle.reassembly.specs.Runs.{AreInOrder, AreJoined, cut, is_across, is_gap, marked, named_in, renamed, unfilled};
+ghost use Rattle.reassembly.specs.Runs.{AreInOrder, AreJoined, cut, filled, is_across, is_gap, marked, named_in, renamed, unfilled};
 
 use crate::runs::Run;
 use arrayvec::ArrayVec;
@@ -11,6 +11,9 @@ use std::marker::Model;
 
 /// So many runs a page has room for. It never has as many: it is halved then.
 pub(crate) const PAGE: usize = 64;
+
+/// A walk over fewer runs than so many takes less than a search by halves.
+const FEW: usize = 8;
 
 /// Runs of a unit that stand one behind the other. They lie in the page itself, so that it takes no memory of its own.
 ///
@@ -39,6 +42,18 @@ impl Page {
         Page {
             runs: ArrayVec::new(),
         }
+    }
+
+    /// Whether its runs are so few that a walk over them takes less than a search.
+    pub(crate) fn has_few(&self) -> bool {
+        self.runs.len() < FEW
+    }
+
+    /// Whether two runs more leave it with fewer than there is room for.
+    pub(crate) fn has_room(&self) -> bool
+        ensures { result ≡ nat_lt (length self.now) 62 }
+    {
+        self.runs.len() < PAGE - 2
     }
 
     /// Its runs.
@@ -122,6 +137,17 @@ impl Page {
         mark_holes(self.runs.as_mut_slice(), from, to, by);
     }
 
+    /// Fills the holes from a place to the place before another: they are pieces of a segment then.
+    pub(crate) fn fill(&mut self, from: u16, to: u16, by: u16)
+        requires room { length self.old < 62 }
+        requires order { AreInOrder self.old }
+        ensures { self.new ≡ filled from to by self.old }
+    {
+        cut_hole(&mut self.runs, from);
+        cut_hole(&mut self.runs, to);
+        mark_holes(self.runs.as_mut_slice(), from, to, by);
+    }
+
     /// Gives the segments other indices: those that stand at theirs.
     pub(crate) fn rename(&mut self, names: &[u16])
         ensures { self.new ≡ map (renamed names.now) self.old }
@@ -131,10 +157,13 @@ impl Page {
 }
 
 /// Whether a hole has a place from `from` to the place before `to`.
-pub(crate) fn has_gap(runs: &[Run], from: u16, to: u16) -> bool
+fn has_gap(runs: &[Run], from: u16, to: u16) -> bool
     requires { AreInOrder runs.now }
     ensures { result ≡ list_any (is_gap from to) runs.now }
 {
+    if runs.len() < FEW {
+        return is_gap_among(runs, from, to);
+    }
     if is_apart(runs, from, to) {
         return false;
     }
@@ -222,6 +251,9 @@ fn hole_across(runs: &[Run], place: u16) -> Option<usize>
     requires { AreInOrder runs.now }
     ensures { result ≡ position_from (is_across place) 0 runs.now }
 {
+    if runs.len() < FEW {
+        return first_across(runs, place);
+    }
     let at = ended_by(runs, place);
     let run = runs.get(at)?;
     if run.by.is_none() && run.from < place {
@@ -231,11 +263,29 @@ fn hole_across(runs: &[Run], place: u16) -> Option<usize>
     }
 }
 
+/// The same, by a walk over the runs.
+fn first_across(runs: &[Run], place: u16) -> Option<usize>
+    ensures { result ≡ position_from (is_across place) 0 runs.now }
+{
+    runs.iter().position(|run| is_across(run, place))
+}
+
+/// Whether a run is a hole with a place that isn't its first.
+fn is_across(run: &Run, place: u16) -> bool
+    ensures { result ≡ is_across place run.now }
+{
+    run.by.is_none() && run.from < place && place < run.to
+}
+
 /// Makes each hole from a place to the place before another a piece of a segment.
 fn mark_holes(runs: &mut [Run], from: u16, to: u16, by: u16)
     requires { AreInOrder runs.old }
     ensures { runs.new ≡ map (marked from to by) runs.old }
 {
+    if runs.len() < FEW {
+        mark_each(runs, from, to, by);
+        return;
+    }
     if is_apart(runs, from, to) {
         return;
     }

@@ -1,8 +1,8 @@
 //! Pages in an order: each stays where it was made, and only the numbers of the pages are moved.
-ghost use Rattle.std.specs.Prelude.{◌≡◌, ◌+◌, ◌-◌, ◌<◌, ◌≤◌, [], ◌∷◌, ◌++◌, drop, false, length, map, take, true, IfOk, MatchOption, Some, slice_get, slice_index_or, slice_set, vec_capacity};
+ghost use Rattle.std.specs.Prelude.{◌≡◌, ◌+◌, ◌-◌, ◌<◌, ◌≤◌, [], ◌∷◌, ◌++◌, drop, false, length, map, nat_lt, take, true, IfOk, MatchOption, Some, slice_get, slice_index_or, slice_set, vec_capacity};
 ghost use Rattle.std.specs.List.{remove};
 ghost use Rattle.reassembly.specs.Pages.{AreHalves, IsTaken};
-ghost use Rattle.reassembly.specs.Runs.{AreInOrder, cut, marked, renamed, unfilled};
+ghost use Rattle.reassembly.specs.Runs.{AreInOrder, cut, filled, marked, renamed, unfilled};
 
 use crate::page::Page;
 use nsap::base::NoMemory;
@@ -124,6 +124,26 @@ impl Pages {
     {
         let number = self.order[at];
         self.made[number].mark(from, to, by);
+    }
+
+    /// Whether two runs more leave a page with fewer than there is room for.
+    pub(crate) fn has_room(&self, at: usize) -> bool
+        requires { at < length self.now.items }
+        ensures { result ≡ nat_lt (length (slice_index_or self.now.items at [])) 62 }
+    {
+        self.made[self.order[at]].has_room()
+    }
+
+    /// Fills the holes on a page from a place to the place before another: they are pieces of a segment then.
+    pub(crate) fn fill(&mut self, at: usize, from: u16, to: u16, by: u16)
+        requires within { at < length self.old.items }
+        requires room { length (slice_index_or self.old.items at []) < 62 }
+        requires order { AreInOrder (slice_index_or self.old.items at []) }
+        ensures items { self.new.items ≡ slice_set self.old.items at (filled from to by (slice_index_or self.old.items at [])) }
+        ensures most { self.new.most ≡ self.old.most }
+    {
+        let number = self.order[at];
+        self.made[number].fill(from, to, by);
     }
 
     /// Gives the segments on a page other indices: those that stand at theirs.

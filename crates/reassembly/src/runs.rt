@@ -1,13 +1,13 @@
 //! Runs of places of a unit's data: holes, and pieces that kept segments fill. They stand on pages, so that a segment moves
 //! few of them; the pages of all open units stand in one list, those of one unit together.
-ghost use Rattle.std.specs.Prelude.{◌≡◌, ◌+◌, ◌-◌, ◌<◌, ◌≤◌, ◌^◌, List, [], ◌∷◌, ◌++◌, drop, length, map, sum, take, IfOk, MatchOption, Some, slice_get, slice_set};
+ghost use Rattle.std.specs.Prelude.{◌≡◌, ◌+◌, ◌-◌, ◌<◌, ◌≤◌, ◌^◌, List, [], ◌∷◌, ◌++◌, drop, false, length, map, sum, take, true, IfOk, MatchOption, Some, slice_get, slice_set};
 ghost use Rattle.std.specs.List.{AllByRecursion, list_any, position_from, remove};
 ghost use Rattle.reassembly.specs.declared.runs.Run.{Run};
 ghost use Rattle.reassembly.specs.Pages.{AreCut, ends_behind, on_pages};
 ghost use Rattle.reassembly.specs.Runs.{AreInOrder, cut, filled, is_gap, marked, renamed, total_runs, unfilled};
 
 use crate::counts::Counts;
-use crate::page::{PAGE, has_gap as has_gap_in};
+use crate::page::PAGE;
 use crate::pages::{Pages, PagesPart};
 use nsap::base::NoMemory;
 use std::alloc::Global;
@@ -87,15 +87,60 @@ impl Runs {
         requires { slot < length self.now.groups }
         ensures { slice_get self.now.groups slot ≡ Some result }
     {
-        let start = self.counts.start_at(slot);
         Group {
             first: &[],
-            others: self.pages.part(start, self.counts.count_at(slot)),
+            others: self.pages_of(slot),
         }
+    }
+
+    /// The pages on which the runs of a unit stand.
+    pub(crate) fn pages_of(&self, slot: usize) -> PagesPart<'_>
+        requires { slot < length self.now.groups }
+        ensures { slice_get self.now.groups slot ≡ Some (on_pages result) }
+    {
+        let start = self.counts.start_at(slot);
+        self.pages.part(start, self.counts.count_at(slot))
     }
 
     /// Fills the holes of a unit from a place to the place before another: they are pieces of a segment then.
     pub(crate) fn fill(&mut self, slot: usize, from: u16, to: u16, by: u16)
+        requires slot { slot < length self.old.groups }
+        requires order { (runs : List Run) → slice_get self.old.groups slot ≡ Some runs → AreInOrder runs }
+        requires room { total_runs self.old.groups + 2 ≤ self.old.room }
+        ensures groups { (runs : List Run) → slice_get self.old.groups slot ≡ Some runs
+            → self.new.groups ≡ slice_set self.old.groups slot (filled from to by runs) }
+        ensures slots { self.old.slots ≤ self.new.slots }
+        ensures room { self.old.room ≤ self.new.room }
+    {
+        // Most units have one page.
+        if !self.fill_page(slot, from, to, by) {
+            self.fill_pages(slot, from, to, by);
+        }
+    }
+
+    /// The same of a unit that has one page, and room on it: tells whether it has.
+    fn fill_page(&mut self, slot: usize, from: u16, to: u16, by: u16) -> bool
+        requires slot { slot < length self.old.groups }
+        requires order { (runs : List Run) → slice_get self.old.groups slot ≡ Some runs → AreInOrder runs }
+        ensures groups { result ≡ true → (runs : List Run) → slice_get self.old.groups slot ≡ Some runs
+            → self.new.groups ≡ slice_set self.old.groups slot (filled from to by runs) }
+        ensures same { result ≡ false → self.new ≡ self.old }
+        ensures slots { self.old.slots ≤ self.new.slots }
+        ensures room { self.old.room ≤ self.new.room }
+    {
+        let start = self.counts.start_at(slot);
+        if self.counts.count_at(slot) != 1 {
+            return false;
+        }
+        if !self.pages.has_room(start) {
+            return false;
+        }
+        self.pages.fill(start, from, to, by);
+        true
+    }
+
+    /// The same of each unit.
+    fn fill_pages(&mut self, slot: usize, from: u16, to: u16, by: u16)
         requires slot { slot < length self.old.groups }
         requires order { (runs : List Run) → slice_get self.old.groups slot ≡ Some runs → AreInOrder runs }
         requires room { total_runs self.old.groups + 2 ≤ self.old.room }
@@ -211,16 +256,8 @@ impl<'a> Group<'a> {
     }
 }
 
-/// Whether a hole has a place from `from` to the place before `to`.
-pub(crate) fn has_gap(runs: &Group<'_>, from: u16, to: u16) -> bool
-    requires { AreInOrder runs.now }
-    ensures { result ≡ list_any (is_gap from to) runs.now }
-{
-    has_gap_in(runs.first, from, to) || has_gap_on(&runs.others, from, to)
-}
-
-/// The same of runs on pages.
-fn has_gap_on(pages: &PagesPart<'_>, from: u16, to: u16) -> bool
+/// Whether a hole on some pages has a place from `from` to the place before `to`.
+pub(crate) fn has_gap(pages: &PagesPart<'_>, from: u16, to: u16) -> bool
     requires { AreInOrder (on_pages pages.now) }
     ensures { result ≡ list_any (is_gap from to) (on_pages pages.now) }
 {
@@ -247,19 +284,27 @@ fn have_gap(pages: &PagesPart<'_>, from: u16, to: u16) -> bool
 }
 
 /// Whether a unit with so many places has a hole, of which the places from `from` to the place before `to` were filled last.
-pub(crate) fn has_hole(runs: &Group<'_>, from: u16, to: u16, places: u16) -> bool
-    requires order { AreInOrder runs.now }
+pub(crate) fn has_hole(pages: &PagesPart<'_>, from: u16, to: u16, places: u16) -> bool
+    requires order { AreInOrder (on_pages pages.now) }
     requires within { (from ≤ places) × (to ≤ places) }
-    ensures { result ≡ list_any (is_gap 0 places) runs.now }
+    ensures { result ≡ list_any (is_gap 0 places) (on_pages pages.now) }
 {
+    if are_few(pages) {
+        return has_gap(pages, 0, places);
+    }
     // Most often there is one beside what was filled.
-    if has_gap(runs, from - from.min(1), from) {
+    if has_gap(pages, from - from.min(1), from) {
         return true;
     }
-    if has_gap(runs, to, places.min(to.saturating_add(1))) {
+    if has_gap(pages, to, places.min(to.saturating_add(1))) {
         return true;
     }
-    has_gap(runs, 0, places)
+    has_gap(pages, 0, places)
+}
+
+/// Whether a walk over all runs on some pages takes less than searches among them.
+fn are_few(pages: &PagesPart<'_>) -> bool {
+    pages.len() == 1 && pages.page(0).has_few()
 }
 
 /// Of how many pages, the first ones, it is plain that all their runs end by a place.

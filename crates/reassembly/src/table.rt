@@ -219,7 +219,7 @@ impl Table {
         let from = segment.offset;
         let to = segment.end();
         match place {
-            Some(place) => !has_gap(&self.runs.group(place), from, to),
+            Some(place) => !has_gap(&self.runs.pages_of(place), from, to),
             None => from == to,
         }
     }
@@ -255,7 +255,7 @@ impl Table {
         self.runs.fill(place, from, to, index);
         self.segments.push(segment);
         let slot = self.openings.slot_at(place);
-        if has_hole(&self.runs.group(place), from, to, shape.data_len()) {
+        if has_hole(&self.runs.pages_of(place), from, to, shape.data_len()) {
             Accept::Held
         } else {
             Accept::Whole(SlotNo(slot))

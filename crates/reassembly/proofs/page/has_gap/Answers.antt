@@ -9,7 +9,7 @@ ended_by-first-requires c = front_order c.args.runs.now c.begun_before-last.resu
 
 pub returns : goal.returns
 returns c =
-    c.is_gap_among.ensures ∙ gap_between c.args.from c.args.to c.ended_by-first.result c.begun_before-last.result c.args.runs.now c.requires
+    c.is_gap_among-2.ensures ∙ gap_between c.args.from c.args.to c.ended_by-first.result c.begun_before-last.result c.args.runs.now c.requires
     c.begun_before-last.ensures.within c.ended_by-first.ensures.within c.ended_by-first.ensures.ended c.begun_before-last.ensures.others
 
 pub returns-then-is_apart : goal.returns-then-is_apart

@@ -12,7 +12,7 @@ returns c =
     let first = c.ended_by-first.result in
     let last = c.begun_before-last.result in
     let runs = c.args.runs.now in
-    ap (λ l. take first runs ++ (l ++ drop (last - first) (drop first runs))) c.mark_each.ensures
+    ap (λ l. take first runs ++ (l ++ drop (last - first) (drop first runs))) c.mark_each-2.ensures
     ∙ marked_between c.args.from c.args.to first last runs c.requires
     c.begun_before-last.ensures.within c.ended_by-first.ensures.within c.ended_by-first.ensures.ended c.begun_before-last.ensures.others c.args.by
 

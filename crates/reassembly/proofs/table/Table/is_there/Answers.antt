@@ -8,14 +8,15 @@ use Rattle.reassembly.specs.declared.segment.Segment.{Segment}
 use Rattle.reassembly.specs.Arrival.{are_covered, arrival_of, data_len}
 use Rattle.reassembly.specs.Entries.{present}
 use Rattle.reassembly.specs.Offered.{openings_of}
+use Rattle.reassembly.specs.Pages.{on_pages}
 use Rattle.reassembly.specs.State.{TableState}
 use Rattle.reassembly.proofs.Indexing.{empty_cover, gap_tells_cover}
 use Rattle.reassembly.proofs.Run.{arrivals_of}
 use Rattle.reassembly.proofs.Slots.{no_segments, slot_missing, slot_there}
 use Rattle.reassembly.proofs.table.Table.is_there.Goals as goal
 
-pub group-requires : goal.group-requires
-group-requires c =
+pub pages_of-requires : goal.pages_of-requires
+pages_of-requires c =
     let t = c.self.inside in
     let there = slot_there c.args.segment.now.key 0 c.in-Some.place c.args.self.now.openings (c.requires.place ∙ c.in-Some.is) in
     omega (
@@ -34,7 +35,7 @@ has_gap-requires c =
     let at : slice_get c.args.self.now.openings c.in-Some.place ≡ Some there.opening
     = subst (λ (n : ℕ). slice_get c.args.self.now.openings n ≡ Some there.opening) slot_is there.stands_at in
     let at_here = ap (λ (v : TableState). slice_get v.openings c.in-Some.place) c.self.view_is ∙ at in
-    let are = c.self.invariant.3.index_is.each c.in-Some.place there.opening c.group.result at_here c.group.ensures in
+    let are = c.self.invariant.3.index_is.each c.in-Some.place there.opening (on_pages c.pages_of.result) at_here c.pages_of.ensures in
     (0, data_len there.opening.shape, are.joined)
 
 pub returns-in-Some : goal.returns-in-Some
@@ -47,9 +48,9 @@ returns-in-Some c =
     = subst (λ (n : ℕ). slice_get c.args.self.now.openings n ≡ Some there.opening) slot_is there.stands_at in
     let at_here = ap (λ (v : TableState). slice_get v.openings c.in-Some.place) c.self.view_is ∙ at in
     let shape = c.requires.shape c.in-Some.place there.opening c.in-Some.is at in
-    let are = c.self.invariant.3.index_is.each c.in-Some.place there.opening c.group.result at_here c.group.ensures in
+    let are = c.self.invariant.3.index_is.each c.in-Some.place there.opening (on_pages c.pages_of.result) at_here c.pages_of.ensures in
     let high = ap data_len shape in
-    let told = gap_tells_cover t.segments.entries there.opening c.group.result segment.offset (arrival_of segment).len c.end-to.result are
+    let told = gap_tells_cover t.segments.entries there.opening (on_pages c.pages_of.result) segment.offset (arrival_of segment).len c.end-to.result are
     (sym c.end-to.ensures.end) (omega (arith, high, c.end-to.ensures.within)) in
     ap not c.has_gap.ensures ∙ told
     ∙ ap (λ (k : Key). are_covered (arrivals_of k (present t.segments.entries)) segment.offset (arrival_of segment).len) there.key_is

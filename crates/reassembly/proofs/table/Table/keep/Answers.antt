@@ -13,6 +13,7 @@ use Rattle.reassembly.specs.Entries.{present}
 use Rattle.reassembly.specs.Index.{IsIndexOf}
 use Rattle.reassembly.specs.Kept.{with_segment}
 use Rattle.reassembly.specs.Offered.{openings_of, total_size}
+use Rattle.reassembly.specs.Pages.{on_pages}
 use Rattle.reassembly.specs.Sound.{IsSound}
 use Rattle.reassembly.specs.State.{IsAt, Stands, TableState, said, segments_of}
 use Rattle.reassembly.proofs.Entries.{present-append}
@@ -71,8 +72,8 @@ push-requires-clause-size c =
     let budget : total_size (present t.segments.entries) + length c.args.segment.pdu.frame ≤ t.limits.budget = rw (segments, limits) c.requires.room.within_budget in
     omega (arith, budget, ap total_size c.make_room.ensures.present, c.self.invariant.0.budget_fits)
 
-pub group-requires : goal.group-requires
-group-requires c =
+pub pages_of-requires : goal.pages_of-requires
+pages_of-requires c =
     let t = c.self.inside in
     let segments : present t.segments.entries ≡ c.args.self.now.segments = ap (λ (t : TableState). t.segments) (c.self.view_is ∙ c.place_for-place.ensures.opened.1) in
     let named = subst (λ (t : TableState). IsAt t c.place_for-place.result c.args.segment.key) (sym c.self.view_is) c.place_for-place.ensures.is_at in
@@ -107,7 +108,7 @@ has_hole-requires-clause-order c =
     let index = index_kept entries t.openings.list c.make_room.new.runs.groups c.fill.new.self.groups c.args.segment c.place_for-place.result named.opening
     c.args.segment.offset c.end-to.result (length c.entries.result.now) before c.self.invariant.0.distinct c.self.invariant.0.shaped named.stands_at named.key_is
     refl c.end-to.ensures.end number new c.fill.ensures.groups in
-    (0, data_len named.opening.shape, (index.each c.place_for-place.result named.opening c.group.result named.stands_at c.group.ensures).joined)
+    (0, data_len named.opening.shape, (index.each c.place_for-place.result named.opening (on_pages c.pages_of.result) named.stands_at c.pages_of.ensures).joined)
 
 pub has_hole-requires-clause-within : goal.has_hole-requires-clause-within
 has_hole-requires-clause-within c = (
@@ -178,8 +179,8 @@ returns-clause-answered c buffers stands =
     let index = index_kept entries t.openings.list c.make_room.new.runs.groups c.fill.new.self.groups c.args.segment c.place_for-place.result named.opening
     c.args.segment.offset c.end-to.result (length c.entries.result.now) before c.self.invariant.0.distinct c.self.invariant.0.shaped named.stands_at named.key_is
     refl c.end-to.ensures.end number new c.fill.ensures.groups in
-    let are = index.each c.place_for-place.result named.opening c.group.result named.stands_at c.group.ensures in
-    let told_is = gap_tells_cover (entries ++ Some c.args.segment ∷ []) named.opening c.group.result 0 c.data_len.result c.data_len.result are
+    let are = index.each c.place_for-place.result named.opening (on_pages c.pages_of.result) named.stands_at c.pages_of.ensures in
+    let told_is = gap_tells_cover (entries ++ Some c.args.segment ∷ []) named.opening (on_pages c.pages_of.result) 0 c.data_len.result c.data_len.result are
     (zero-add c.data_len.result) (omega (arith, ap data_len shape, c.data_len.ensures)) in
     let there : present (entries ++ Some c.args.segment ∷ []) ≡ c.args.self.now.segments ++ c.args.segment ∷ []
     = present-append entries (Some c.args.segment ∷ []) ∙ ap (λ (l : List Segment). l ++ c.args.segment ∷ []) (made.present ∙ segments) in

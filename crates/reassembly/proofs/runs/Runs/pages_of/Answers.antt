@@ -3,7 +3,7 @@ use Rattle.std.proofs.Common.{Some, ap, sym, ◌∙◌, arith}
 use Rattle.std.proofs.lemmas.Option.{get_or_from_slice_get}
 use Rattle.reassembly.specs.Pages.{on_pages}
 use Rattle.reassembly.proofs.Groups.{group_there, inside, fits}
-use Rattle.reassembly.proofs.runs.Runs.group.Goals as goal
+use Rattle.reassembly.proofs.runs.Runs.pages_of.Goals as goal
 
 pub start_at-start-requires : goal.start_at-start-requires
 start_at-start-requires c =

@@ -8,7 +8,7 @@ use Rattle.reassembly.proofs.Filling.{length-cut}
 use Rattle.std.proofs.lemmas.Option.{same_Some}
 use Rattle.reassembly.proofs.Searching.{cut_order}
 use Rattle.reassembly.proofs.Groups.{set-set, total-set}
-use Rattle.reassembly.proofs.runs.Runs.fill.Goals as goal
+use Rattle.reassembly.proofs.runs.Runs.fill_pages.Goals as goal
 
 pub cut-requires-2-clause-slot : goal.cut-requires-2-clause-slot
 cut-requires-2-clause-slot c =
