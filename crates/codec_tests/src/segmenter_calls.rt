@@ -141,3 +141,33 @@ fn makes_the_first_headers(rt: HostRuntime) {
     };
     assert!(rt; begins_with(cuts, FIRST));
 }
+
+/// How many octets of data the PDU has, where it is its own single piece with this header.
+fn uncut_with(cuts: &Cuts, header: &[u8]) -> Option<usize> {
+    let (head, len) = cuts.single()?;
+    (head.as_bytes() == header).then_some(len)
+}
+
+#[test]
+fn tells_a_single_piece(rt: HostRuntime) {
+    let rows: [(u16, Option<usize>); 2] = [(3025, Some(3000)), (3024, None)];
+    for (mtu, want) in rows {
+        assert!(rt; mtu >= 512);
+        let Some(cuts) = cuts_of(mtu) else {
+            panic!(rt; "no pieces")
+        };
+        assert!(rt; uncut_with(&cuts, UNIT) == want, "at {mtu}");
+    }
+}
+
+/// Whether the last of two pieces is no PDU uncut, and whether nothing that is left is one.
+#[test]
+fn last_piece_is_no_single_one(rt: HostRuntime) {
+    for mtu in [3025, 3024] {
+        let Some(mut cuts) = cuts_of(mtu) else {
+            panic!(rt; "no pieces")
+        };
+        assert!(rt; cuts.next().is_some());
+        assert!(rt; cuts.single().is_none(), "at {mtu}");
+    }
+}

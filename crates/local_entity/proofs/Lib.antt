@@ -19,3 +19,4 @@ pub mod Receiving
 pub mod Expiry
 pub mod Ticking
 pub mod Sent
+pub mod Pieces

@@ -29,7 +29,8 @@ use Rattle.clnp_machine.specs.Given.{Appends, GiveAll, IsSentFor}
 use Rattle.local_entity.specs.Sending.{piece_frame, transmission}
 use Rattle.clnp_machine.proofs.Pieces.{AreBoth, AreThese, IsThis, cut_both}
 
-seen_of_part : (body : Extent) (from len : ℕ) → from + len ≤ body.len → seen (part from len body) ≡ take len (drop from (seen body))
+-- the data of a piece, read from what is seen
+pub seen_of_part : (body : Extent) (from len : ℕ) → from + len ≤ body.len → seen (part from len body) ≡ take len (drop from (seen body))
 seen_of_part body from len within = sym (part_of_part body.frame body.from body.len from len within)
 
 -- the frame of a piece has the octets of the packet that it is

@@ -18,8 +18,9 @@ ghost use Rattle.local_entity.specs.Sending.{transmission};
 
 use crate::action::Made;
 use clnp_machine::base::NoMemory;
+use clnp_machine::clnp::Header;
 use clnp_machine::options::Reason;
-use clnp_machine::segmenting::{Cut, Cuts, NotPermitted};
+use clnp_machine::segmenting::{Cuts, NotPermitted};
 use clnp_machine::system_plan::{Note, Output, PortConfig, Sending};
 use clnp_machine::views::{Frame, View};
 use clnp_machine::way::Hop;
@@ -77,11 +78,13 @@ fn send_on(
 }
 
 /// Gives out the pieces of a PDU with these data, which is forwarded or was made here, each as a frame of its own. They are
-/// taken from `cuts`, which is lent and not handed over, since it holds a header of up to 254 octets.
+/// taken from `cuts`, which is lent and not handed over, since it holds a header of up to 254 octets. A PDU that is its own
+/// single piece stays there, for the same reason.
 ///
 /// # Errors
 ///
 /// `NoMemory`: `out` is then as it was.
+#[tactic(auto, using(crate::proofs::Sent::seen_of_part))]
 pub fn give_pieces(
     alloc: Global,
     cuts: &mut Cuts,
@@ -95,6 +98,9 @@ pub fn give_pieces(
     ensures none { OnErr result (out.new.items ≡ out.old.items) }
     ensures front { take (length out.old.items) out.new.items ≡ out.old.items }
 {
+    if let Some((head, len)) = cuts.single() {
+        return push_piece(alloc, head, &body.bytes()[..len], &hop, forwarded, out);
+    }
     let before = out.len();
     if let Err(refused) = push_pieces(alloc, cuts, &hop, body, forwarded, out) {
         out.truncate(before);
@@ -117,26 +123,26 @@ fn push_pieces(
     ensures front { OnErr result (take (length out.old.items) out.new.items ≡ out.old.items) }
 {
     for cut in cuts {
-        push_piece(alloc, &cut, hop, body, forwarded, out)?;
+        let data = &body.bytes()[cut.from..cut.from + cut.len];
+        push_piece(alloc, &cut.head, data, hop, forwarded, out)?;
     }
     Ok(())
 }
 
-/// Appends a piece of a PDU with these data.
+/// Appends the piece of a PDU that has this header and these data.
 fn push_piece(
     alloc: Global,
-    cut: &Cut,
+    head: &Header,
+    data: &[u8],
     hop: &Hop,
-    body: &View,
     forwarded: bool,
     out: &mut Vec<Output>,
 ) -> Result<(), NoMemory>
-    requires { cut.now.from + cut.now.len ≤ body.now.len }
-    ensures given { OnOk result (out.new.items ≡ out.old.items ++ transmission forwarded hop.now body.now cut.now ∷ []) }
+    ensures given { OnOk result (out.new.items ≡ out.old.items
+        ++ Transmit (record { port = hop.now.port; to = hop.now.target; frame = head.now ++ data.now; forwarded = forwarded }) ∷ []) }
     ensures none { OnErr result (out.new.items ≡ out.old.items) }
 {
-    let data = body.part(cut.from, cut.len)?;
-    let frame = joined(alloc, cut.head.as_bytes(), data.bytes())?;
+    let frame = joined(alloc, head.as_bytes(), data)?;
     out.reserve(1)?;
     out.push_reserved(Output::Transmit(Sending {
         port: hop.port,

@@ -40,6 +40,16 @@ ceil_is len room some = by_order (cases_lt (div_ceil len room) ((len + room - 1)
         absurd (omega (arith, (le-div_iff_mul-le {x = div_ceil len room + 1} {y = len + room - 1} some).0 more, (div_ceil_times len room some).0))
     by_order (inr h) = omega (arith, low)
 
+-- data with more octets than a piece has room for are in more than one piece
+ceil_several : (len room : ℕ) → 0 < room → room < len → 1 < div_ceil len room
+ceil_several len room some more = by_order (cases_lt 1 (div_ceil len room))
+  where
+    by_order : (1 < div_ceil len room) ⊎ (div_ceil len room ≤ 1) → 1 < div_ceil len room
+    by_order (inl h) = h
+    by_order (inr h) =
+        let few : div_ceil len room * room ≤ 1 * room = mul-le-mul_right room h in
+        absurd (omega (arith, few, (div_ceil_times len room some).0))
+
 -- ---- what the iterator holds at first
 
 one_begins : (room number : ℕ) → number < 0 + 1 → number * room ≤ room
@@ -53,16 +63,20 @@ whole_cutting tells v octets len h e = record {
   part = tt;
   begins = one_begins len;
   few = omega arith;
+  single = λ none. (refl, refl);
+  several = λ part has. absurd (cc);
 }
 
 pub parts_cutting : Tells → (v : PduValue) (octets : List ℕ) (len room left : ℕ) (part : SegPart) → SpellsHeader v octets → length v.body ≡ len
-    → Some (part_value part) ≡ v.segmentation → 0 < room → left ≡ div_ceil len room → left < 2 ^ 64
+    → Some (part_value part) ≡ v.segmentation → 0 < room → room < len → left ≡ div_ceil len room → left < 2 ^ 64
     → IsCutting (record { head = octets; part = Some part; body_len = len; room = room; number = 0; left = left })
-parts_cutting tells v octets len room left part h e has some count few = record {
+parts_cutting tells v octets len room left part h e has some more count few = record {
   spells = zeros_spelled tells v octets len h e;
   part = part_of_zeros tells v octets len h ∙ sym has;
   begins = λ number below. ceil_begins len room number some (omega (arith, count));
   few = omega arith;
+  single = λ none. absurd (cc);
+  several = λ other has. (some, omega (arith, count, ceil_several len room some more));
 }
 
 -- ---- the pieces at first
@@ -176,3 +190,37 @@ some_header head len held part range e = rw e refl
 pub whole_size : (len number : ℕ) → number < 0 + 1 → min len (len - number * len) ≡ len
 whole_size len zero h = omega arith
 whole_size len (suc number) h = absurd (omega arith)
+
+-- ---- a single piece
+
+-- the PDU uncut
+pub single_is : (s : Inside) → IsCutting s → s.part ≡ None → s.left ≡ 1
+    → cuts_left s ≡ (let x : Cut = record { head = s.head; from = 0; len = s.body_len } in x) ∷ []
+unfolding piece_header
+single_is s h none one =
+    let first : s.number ≡ 0 = omega (arith, (h.single none).0) in
+    ap (λ k. map (nth_cut s) (range_with_len s.number k)) one
+    ∙ ap (λ (x : Cut). x ∷ [])
+    (same_cut (piece_header s.head s.body_len s.part (nth_range s.room s.body_len s.number)) s.head (s.number * s.room) 0
+    (min s.room (s.body_len - s.number * s.room)) s.body_len (rw none refl) (rw first (omega arith)) (rw (first, (h.single none).1) (omega arith)))
+
+single_piece : (f : ℕ → Cut) (number left : ℕ) (x : Cut) → map f (range_with_len number left) ≡ x ∷ [] → (left ≡ 1) × (f number ≡ x)
+single_piece f number zero x e = absurd (cc)
+single_piece f number (suc zero) x e = (refl, cc)
+single_piece f number (suc (suc left)) x e = absurd (cc)
+
+-- a PDU that is cut has no single piece that begins where its data do
+pub not_single : (s : Inside) → IsCutting s → (s.part ≡ None → s.left ≢ 1) → (head : List ℕ) (len : ℕ)
+    → cuts_left s ≢ (let x : Cut = record { head = head; from = 0; len = len } in x) ∷ []
+not_single s h cut head len e = by_part s.part refl
+  where
+    one : (s.left ≡ 1) × (nth_cut s s.number ≡ (let x : Cut = record { head = head; from = 0; len = len } in x))
+    one = single_piece (nth_cut s) s.number s.left _ e
+
+    by_part : (part : Option SegPart) → s.part ≡ part → ⊥
+    by_part None none = cut none one.0
+    by_part (Some part) has =
+        let from : s.number * s.room ≡ 0 = ap (λ (x : Cut). x.from) one.1 in
+        let several = h.several part has in
+        let least : 1 * s.room ≤ s.number * s.room = mul-le-mul_right s.room (omega (arith, several.1, one.0)) in
+        omega (arith, several.0, from, least)

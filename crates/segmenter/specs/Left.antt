@@ -35,12 +35,15 @@ abbrev pub IsPartOf : PduValue → Option SegPart → Type 0
 IsPartOf v None = Unit {0}
 IsPartOf v (Some part) = v.segmentation ≡ Some (part_value part)
 
--- the header is that of a PDU with so many octets of data, and each piece begins in them, or at their end
+-- The header is that of a PDU with so many octets of data, and each piece begins in them, or at their end. There is one piece,
+-- with all the data, where the PDU is not cut, and else there are several.
 pub record IsCutting (s : Inside) : Type 0 where
   pub spells : SpellsHeader (of_zeros s.head s.body_len) s.head
   pub part : IsPartOf (of_zeros s.head s.body_len) s.part
   pub begins : (number : ℕ) → number < s.number + s.left → number * s.room ≤ s.body_len
   pub few : s.number + s.left < 2 ^ 64
+  pub single : s.part ≡ None → (s.number + s.left ≡ 1) × (s.room ≡ s.body_len)
+  pub several : (part : SegPart) → s.part ≡ Some part → (0 < s.room) × (1 < s.number + s.left)
 
 -- a piece lies in so many octets of data, and its header is that of a PDU with its data
 pub record IsCutOf (body_len : ℕ) (cut : Cut) : Type 0 where

@@ -1,5 +1,5 @@
 //! The pieces of a PDU for an MTU.
-ghost use Rattle.std.specs.Prelude.{◌≡◌, ◌≤◌, ◌+◌, ℕ, List, length, map, MatchOption, Ok, Err, IfOk, Some};
+ghost use Rattle.std.specs.Prelude.{◌≡◌, ◌≢◌, ◌≤◌, ◌+◌, ◌∷◌, [], ℕ, List, length, map, MatchOption, Ok, Err, IfOk, IfSome, IfNone, Some};
 ghost use Rattle.std.specs.List.{AllByRecursion};
 ghost use Rattle.std.specs.Iterator.{YieldsFirst, item_count};
 ghost use Rattle.pdu_header.specs.Value.{PduValue};
@@ -101,6 +101,18 @@ impl Cuts {
             number: 0,
             left: body_len.div_ceil(room),
         })
+    }
+
+    /// The header and the number of octets of data of the piece that is left, where it is a single one whose data begin where
+    /// the PDU's data do: the PDU uncut. It is told so without a copy of the header.
+    pub fn single(&self) -> Option<(&Header, usize)>
+        ensures single { IfSome result (λ piece. self.now ≡ record { head = piece.0.now; from = 0; len = piece.1 } ∷ []) }
+        ensures none { IfNone result ((head : List ℕ) (len : ℕ) → self.now ≢ record { head = head; from = 0; len = len } ∷ []) }
+    {
+        match self.part {
+            None if self.left == 1 => Some((&self.head, self.body_len)),
+            _ => None,
+        }
     }
 }
 

@@ -29,7 +29,7 @@ pub invariant_of-result-2 : goal.invariant_of-result-2
 invariant_of-result-2 c =
     let v : PduValue = c.requires.data.0 in
     let some : 0 < (c.from-mtu.result - length c.as_bytes-head_len.result.now) / 8 * 8 = omega (arith, c.as_bytes-head_len.ensures.few, c.from-mtu.ensures, c.requires.mtu) in
-    parts_cutting c.a_header_tells_its_value.ensures.value v c.args.head c.args.body_len _ c.div_ceil.result c.in-Some.part c.requires.data.1 c.requires.data.2 (c.in-Some.ensures v c.requires.data.1) some c.div_ceil.ensures (omega arith)
+    parts_cutting c.a_header_tells_its_value.ensures.value v c.args.head c.args.body_len _ c.div_ceil.result c.in-Some.part c.requires.data.1 c.requires.data.2 (c.in-Some.ensures v c.requires.data.1) some (omega (arith, c.from-mtu.ensures)) c.div_ceil.ensures (omega arith)
 
 pub returns-clause-cut : goal.returns-clause-cut
 returns-clause-cut c v h e =

@@ -1,0 +1,39 @@
+-- The pieces of a PDU that were given out, one after another.
+use Rattle.std.proofs.Common.{◌≡◌, ◌∙◌, sym, ap, ◌+◌, ◌-◌, ◌≤◌, arith, Bool, ℕ, List, [], ◌∷◌, ◌++◌, map, take, drop, append_assoc}
+use Rattle.std.proofs.lemmas.List.{map-append}
+use Rattle.clnp_machine.specs.ClnpViews.Extent.{Extent, seen}
+use Rattle.clnp_machine.specs.Segmenter.declared.cuts.Cut.{Cut}
+use Rattle.clnp_machine.specs.ClnpPlan.declared.output.Output.{Output}
+use Rattle.clnp_machine.specs.ClnpPlan.declared.output.Output.TheVariants.{Transmit}
+use Rattle.clnp_machine.specs.ClnpPlan.declared.output.Sending.{Sending}
+use Rattle.clnp_machine.specs.declared.way.Hop.{Hop}
+use Rattle.local_entity.specs.Sending.{transmission}
+use Rattle.local_entity.proofs.Sent.{seen_of_part}
+
+-- what is given out for a header and data
+abbrev pub sent_with : (forwarded : Bool) → Hop → (head octets : List ℕ) → Output
+sent_with forwarded hop head octets =
+    Transmit (let s : Sending = record { port = hop.port; to = hop.target; frame = head ++ octets; forwarded = forwarded } in s)
+
+piece_is : (forwarded : Bool) (hop : Hop) (body : Extent) (cut : Cut) (octets : List ℕ) → cut.from + cut.len ≤ body.len
+    → octets ≡ take cut.len (drop cut.from (seen body)) → sent_with forwarded hop cut.head octets ≡ transmission forwarded hop body cut
+piece_is forwarded hop body cut octets within same =
+    ap (λ (xs : List ℕ). sent_with forwarded hop cut.head xs) (same ∙ sym (seen_of_part body cut.from cut.len within))
+
+-- one piece more
+pub given_more : (forwarded : Bool) (hop : Hop) (body : Extent) (before mid after : List Output) (done : List Cut) (cut : Cut) (octets : List ℕ)
+    → mid ≡ before ++ map (transmission forwarded hop body) done → cut.from + cut.len ≤ body.len
+    → octets ≡ take cut.len (drop cut.from (seen body)) → after ≡ mid ++ sent_with forwarded hop cut.head octets ∷ []
+    → after ≡ before ++ map (transmission forwarded hop body) (done ++ cut ∷ [])
+given_more forwarded hop body before mid after done cut octets given within same appended =
+    appended
+    ∙ ap (λ (xs : List Output). xs ++ sent_with forwarded hop cut.head octets ∷ []) given
+    ∙ ap (λ (x : Output). (before ++ map (transmission forwarded hop body) done) ++ x ∷ []) (piece_is forwarded hop body cut octets within same)
+    ∙ append_assoc before (map (transmission forwarded hop body) done) (transmission forwarded hop body cut ∷ [])
+    ∙ ap (λ (xs : List Output). before ++ xs) (sym (map-append (transmission forwarded hop body) done (cut ∷ [])))
+
+-- a part of what is seen, by its ends
+pub part_by_ends : (xs ys : List ℕ) (from len : ℕ) → xs ≡ ys → take (from + len - from) (drop from xs) ≡ take len (drop from ys)
+part_by_ends xs ys from len same =
+    let size : from + len - from ≡ len = omega arith in
+    ap (λ (n : ℕ). take n (drop from xs)) size ∙ ap (λ (zs : List ℕ). take len (drop from zs)) same
