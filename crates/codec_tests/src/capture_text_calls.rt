@@ -116,40 +116,51 @@ fn is_vector(alloc: Global, vector: &[u8]) -> bool {
     }
 }
 
-/// The line with another word in the place of one.
-fn with_word(alloc: Global, line: &[u8], word: &[u8], other: &[u8]) -> Result<Vec<u8>, NoMemory> {
-    let mut changed = Vec::new(alloc);
-    for each in words(line) {
-        if !changed.is_empty() {
-            push(b" ", &mut changed)?;
-        }
-        push(if each == word { other } else { each }, &mut changed)?;
+/// Appends a word, behind a space where another stands before it.
+fn push_word(word: &[u8], line: &mut Vec<u8>) -> Result<(), NoMemory> {
+    if !line.is_empty() {
+        push(b" ", line)?;
     }
-    Ok(changed)
+    push(word, line)
+}
+
+/// Appends the line with another word in the place of one.
+fn push_changed(
+    line: &[u8],
+    word: &[u8],
+    other: &[u8],
+    changed: &mut Vec<u8>,
+) -> Result<(), NoMemory> {
+    for each in words(line) {
+        push_word(if each == word { other } else { each }, changed)?;
+    }
+    Ok(())
 }
 
 /// Whether the line with another word in the place of one is the line of no frame.
 fn is_no_line(alloc: Global, line: &[u8], word: &[u8], other: &[u8]) -> bool {
-    let Ok(changed) = with_word(alloc, line, word, other) else {
-        return false;
-    };
-    let mut out = Vec::new(alloc);
-    pack_line(alloc, &DigitValues::new(), &changed, &mut out) == Err(PackRefusal::NotShown)
-        && out.is_empty()
+    let mut changed = Vec::new(alloc);
+    push_changed(line, word, other, &mut changed).is_ok()
+        && appends_nothing(alloc, &changed, Err(PackRefusal::NotShown))
 }
 
-/// Whether no line that one of these changes makes is the line of a frame. A change is a word, a space, and what stands
-/// in its place.
+/// Whether the line that a change makes is the line of no frame. A change is a word, a space, and what stands in its
+/// place.
+fn is_refused(alloc: Global, line: &[u8], change: &[u8]) -> bool {
+    let Some((word, rest)) = next_word(change) else {
+        return false;
+    };
+    match rest.strip_prefix(b" ") {
+        Some(other) => is_no_line(alloc, line, word, other),
+        None => false,
+    }
+}
+
+/// Whether no line that one of these changes makes is the line of a frame.
 fn are_no_lines(alloc: Global, line: &[u8], changes: &[u8]) -> bool {
     let mut left = changes;
     while let Some((change, others)) = next_line(left) {
-        let Some((word, rest)) = next_word(change) else {
-            return false;
-        };
-        let Some(other) = rest.strip_prefix(b" ") else {
-            return false;
-        };
-        if !is_no_line(alloc, line, word, other) {
+        if !is_refused(alloc, line, change) {
             return false;
         }
         left = others;
@@ -260,47 +271,51 @@ title=470027ff title=470027fe\n\
 rest= reset=\n\
 ";
 
+/// Each line, and its changes.
+const CHANGED: [(&[u8], &[u8]); 5] = [
+    (REQUEST, REQUEST_CHANGES),
+    (REPORT, REPORT_CHANGES),
+    (ESH, ESH_CHANGES),
+    (ISH, ISH_CHANGES),
+    (RD, RD_CHANGES),
+];
+
 #[test]
 fn finds_a_changed_word(rt: HostRuntime) {
-    assert!(rt; are_no_lines(rt.alloc(), REQUEST, REQUEST_CHANGES));
-    assert!(rt; are_no_lines(rt.alloc(), REPORT, REPORT_CHANGES));
-    assert!(rt; are_no_lines(rt.alloc(), ESH, ESH_CHANGES));
-    assert!(rt; are_no_lines(rt.alloc(), ISH, ISH_CHANGES));
-    assert!(rt; are_no_lines(rt.alloc(), RD, RD_CHANGES));
+    for (line, changes) in &CHANGED {
+        assert!(rt; are_no_lines(rt.alloc(), line, changes));
+    }
 }
 
-/// Whether packing the line answers this, and appends these digits to a `-`.
-fn answers(alloc: Global, line: &[u8], answer: Result<bool, PackRefusal>, digits: &[u8]) -> bool {
-    let Ok(mut out) = Vec::from_slice(alloc, b"-") else {
-        return false;
-    };
-    let Ok(mut wanted) = Vec::from_slice(alloc, b"-") else {
-        return false;
-    };
-    push(digits, &mut wanted).is_ok()
+/// Whether packing the line answers this, and appends nothing to a `-`.
+fn appends_nothing(alloc: Global, line: &[u8], answer: Result<bool, PackRefusal>) -> bool {
+    let mut out = Vec::new(alloc);
+    push(b"-", &mut out).is_ok()
         && pack_line(alloc, &DigitValues::new(), line, &mut out) == answer
-        && out.as_slice() == wanted.as_slice()
+        && out.as_slice() == b"-".as_slice()
 }
+
+/// Lines of no frame, and the answers to them.
+const OTHERS: [(&[u8], Result<bool, PackRefusal>); 13] = [
+    (b"", Ok(false)),
+    (b"#", Ok(false)),
+    (b"# alien", Ok(false)),
+    (b"alien", Err(PackRefusal::NotPackable)),
+    (b"refused G5 02 00 report", Err(PackRefusal::NotPackable)),
+    (b"refused ", Err(PackRefusal::NotPackable)),
+    (b"refused", Err(PackRefusal::NotShown)),
+    (b"aliens", Err(PackRefusal::NotShown)),
+    (b" alien", Err(PackRefusal::NotShown)),
+    (b" ", Err(PackRefusal::NotShown)),
+    (b"clnp", Err(PackRefusal::NotShown)),
+    (b"clnp dt", Err(PackRefusal::NotShown)),
+    (b"esh", Err(PackRefusal::NotShown)),
+];
 
 #[test]
 fn tells_other_lines(rt: HostRuntime) {
-    let rows = [
-        (b"".as_slice(), Ok(false)),
-        (b"#", Ok(false)),
-        (b"# alien", Ok(false)),
-        (b"alien", Err(PackRefusal::NotPackable)),
-        (b"refused G5 02 00 report", Err(PackRefusal::NotPackable)),
-        (b"refused ", Err(PackRefusal::NotPackable)),
-        (b"refused", Err(PackRefusal::NotShown)),
-        (b"aliens", Err(PackRefusal::NotShown)),
-        (b" alien", Err(PackRefusal::NotShown)),
-        (b" ", Err(PackRefusal::NotShown)),
-        (b"clnp", Err(PackRefusal::NotShown)),
-        (b"clnp dt", Err(PackRefusal::NotShown)),
-        (b"esh", Err(PackRefusal::NotShown)),
-    ];
-    for (line, answer) in rows {
-        assert!(rt; answers(rt.alloc(), line, answer, b""));
+    for (line, answer) in &OTHERS {
+        assert!(rt; appends_nothing(rt.alloc(), line, *answer));
     }
 }
 
@@ -309,19 +324,29 @@ const UNIT: &[u8] = b"clnp dt e life=10 sum=ce58 to=47002701 from=47002702 data=
 
 const UNIT_DIGITS: &[u8] = b"8113010a3c0015ce58044700270104470027026869";
 
+/// Whether the unit's line with so many zeros behind it is made.
+fn is_lengthened(zeros: usize, line: &mut Vec<u8>) -> bool {
+    push(UNIT, line).is_ok() && line.resize(UNIT.len().saturating_add(zeros), b'0').is_ok()
+}
+
+/// Whether packing of a line answers this, and gives the unit's digits just where it packs.
+fn packs_unit(alloc: Global, line: &[u8], answer: Result<bool, PackRefusal>) -> bool {
+    let mut out = Vec::new(alloc);
+    pack_line(alloc, &DigitValues::new(), line, &mut out) == answer
+        && out.starts_with(UNIT_DIGITS) == answer.is_ok()
+}
+
+/// How many zeros stand behind the unit's line, and the answer to that.
+const LONG: [(usize, Result<bool, PackRefusal>); 3] = [
+    (139_958, Ok(true)),
+    (139_960, Err(PackRefusal::Count)),
+    (139_961, Err(PackRefusal::NotShown)),
+];
+
 #[test]
 fn packs_70000_octets_and_no_more(rt: HostRuntime) {
-    let rows = [
-        (139_958, Ok(true)),
-        (139_960, Err(PackRefusal::Count)),
-        (139_961, Err(PackRefusal::NotShown)),
-    ];
-    for (zeros, answer) in rows {
-        let mut line = Vec::from_slice(rt.alloc(), UNIT).expect(&rt, "memory");
-        let rest = Vec::from_elem(rt.alloc(), b'0', zeros).expect(&rt, "memory");
-        push(&rest, &mut line).expect(&rt, "memory");
-        let mut out = Vec::new(rt.alloc());
-        assert!(rt; pack_line(rt.alloc(), &DigitValues::new(), &line, &mut out) == answer);
-        assert!(rt; out.starts_with(UNIT_DIGITS) == (answer == Ok(true)));
+    for (zeros, answer) in &LONG {
+        let mut line = Vec::new(rt.alloc());
+        assert!(rt; is_lengthened(*zeros, &mut line) && packs_unit(rt.alloc(), &line, *answer));
     }
 }

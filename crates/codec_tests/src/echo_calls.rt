@@ -34,15 +34,17 @@ fn replies_to_a_request(rt: HostRuntime) {
 const BEHIND: &[u8] =
     b"\x81\x13\x01\x40\x3e\x00\x15\xb7\x37\x04\x47\x00\x27\x01\x04\x47\x00\x27\x02\x68\x69\x00";
 
+/// Data of replies, and whether they answer the request.
+const BODIES: [(&[u8], bool); 4] = [
+    (b"hi", true),
+    (REQUEST, true),
+    (b"ho", false),
+    (BEHIND, false),
+];
+
 #[test]
 fn matches_replies(rt: HostRuntime) {
-    let rows = [
-        (b"hi".as_slice(), true),
-        (REQUEST, true),
-        (b"ho", false),
-        (BEHIND, false),
-    ];
-    for (body, want) in rows {
-        assert!(rt; matches(b"hi", body) == want);
+    for (body, want) in &BODIES {
+        assert!(rt; matches(b"hi", body) == *want);
     }
 }

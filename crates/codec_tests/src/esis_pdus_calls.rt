@@ -22,31 +22,61 @@ const TITLED: &[u8] =
 #[test]
 fn makes_the_worked_hellos(rt: HostRuntime) {
     let host = Address::from_text(b"47002702").expect(&rt, "an address");
-    let hello = esh(120, &[host], true).expect(&rt, "a hello");
-    assert!(rt; hello.as_bytes() == HOST);
+    assert!(rt; is_hello(&[host], true, HOST));
     let title = Address::from_text(b"470027ff").expect(&rt, "a title");
-    assert!(rt; ish(120, &title, None, true).as_bytes() == ROUTER);
-    assert!(rt; ish(120, &title, Some(30), true).as_bytes() == SUGGESTS);
+    assert!(rt; are_router_hellos(&title));
+}
+
+/// Whether an end system hello of these addresses has these octets.
+fn is_hello(addresses: &[Address], sealed: bool, want: &[u8]) -> bool {
+    match esh(120, addresses, sealed) {
+        Ok(hello) => hello.as_bytes() == want,
+        Err(_) => false,
+    }
+}
+
+/// Whether the hellos of a title are those above.
+fn are_router_hellos(title: &Address) -> bool {
+    ish(120, title, None, true).as_bytes() == ROUTER
+        && ish(120, title, Some(30), true).as_bytes() == SUGGESTS
 }
 
 #[test]
 fn makes_the_worked_redirects(rt: HostRuntime) {
     let to = Address::from_text(b"47002701").expect(&rt, "an address");
-    let via = Snpa::from_text(b"02").expect(&rt, "a subnetwork address");
-    assert!(rt; rd(120, &to, &via, None, true).as_bytes() == REDIRECT);
     let title = Address::from_text(b"470027ff").expect(&rt, "a title");
-    assert!(rt; rd(120, &to, &via, Some(&title), false).as_bytes() == TITLED);
+    let via = Snpa::from_text(b"02").expect(&rt, "a subnetwork address");
+    assert!(rt; are_redirects(&to, &via, &title));
+}
+
+/// Whether the redirects to these are those above.
+fn are_redirects(to: &Address, via: &Snpa, title: &Address) -> bool {
+    rd(120, to, via, None, true).as_bytes() == REDIRECT
+        && rd(120, to, via, Some(title), false).as_bytes() == TITLED
 }
 
 #[test]
 fn counts_the_octets_of_a_hello(rt: HostRuntime) {
     let address = Address::from_bytes(&[0x47; 20]).expect(&rt, "an address");
-    let eleven = esh(120, &[address; 11], true).expect(&rt, "a hello");
-    assert!(rt; eleven.as_bytes().len() == 241);
-    let refused = esh(120, &[address; 12], true).err();
-    assert!(rt; refused == Some(HelloRefusal::TooLong { octets: 262 }));
-    let none = esh(120, &[], false).expect(&rt, "a hello");
-    assert!(rt; none.as_bytes() == b"\x82\x0a\x01\x00\x02\x00\x78\x00\x00\x00".as_slice());
+    assert!(rt; has_octets(&[address; 11], 241));
+    assert!(rt; is_too_long(&[address; 12], 262));
+    assert!(rt; is_hello(&[], false, b"\x82\x0a\x01\x00\x02\x00\x78\x00\x00\x00"));
+}
+
+/// Whether an end system hello of these addresses has so many octets.
+fn has_octets(addresses: &[Address], octets: usize) -> bool {
+    match esh(120, addresses, true) {
+        Ok(hello) => hello.as_bytes().len() == octets,
+        Err(_) => false,
+    }
+}
+
+/// Whether an end system hello of these addresses is refused, since it would have so many octets.
+fn is_too_long(addresses: &[Address], octets: usize) -> bool {
+    match esh(120, addresses, true) {
+        Ok(_) => false,
+        Err(refusal) => refusal == HelloRefusal::TooLong { octets },
+    }
 }
 
 /// The holding time of a frame's PDU, where the frame is that PDU and it is written again as it stands.

@@ -5,6 +5,7 @@ ghost use Rattle.segmenter.specs.PduHeader.Parts.{AreFit};
 use pdu_header::nsaps::Address;
 use pdu_header::options::OptionList;
 use pdu_header::{Header, Kind, Parts, decode, encode};
+use std::alloc::Global;
 
 /// A data PDU of lifetime 10 with the data 6869, sealed.
 const FRAME: &[u8] =
@@ -37,12 +38,16 @@ fn plain() -> Option<Parts>
 
 #[test]
 fn encodes_a_worked_pdu(rt: HostRuntime) {
+    assert!(rt; is_encoded(rt.alloc()));
+}
+
+/// Whether the PDU of these parts is the frame.
+fn is_encoded(alloc: Global) -> bool {
     let Some(parts) = plain() else {
-        panic!(rt; "no parts")
+        return false;
     };
-    let mut out = Vec::new(rt.alloc());
-    assert!(rt; encode(rt.alloc(), &parts, b"hi", &mut out).is_ok());
-    assert!(rt; out.as_slice() == FRAME);
+    let mut out = Vec::new(alloc);
+    encode(alloc, &parts, b"hi", &mut out).is_ok() && out.as_slice() == FRAME
 }
 
 /// A source route, a recording of route and a quality of service.
@@ -69,18 +74,26 @@ fn advanced(frame: &[u8]) -> Option<Header> {
 /// A sealed header before and after a router's changes.
 #[test]
 fn changes_options(rt: HostRuntime) {
-    let Some(mut header) = advanced(
-        b"\x81\x28\x01\x0a\x3c\x00\x2a\x09\x53\x04\x47\x00\x27\x01\x04\x47\x00\x27\x02\xc8\x07\x00\x03\x04\x47\x00\x27\xff\xcb\x07\x00\x03\x00\x00\x00\x00\x00\xc3\x01\xc0\x68\x69",
-    ) else {
+    let own = Address::from_text(b"47002701").expect(&rt, "a title");
+    let Some(mut header) = advanced(BEFORE) else {
         panic!(rt; "no header")
     };
-    assert!(rt; header.route_target().is_none());
-    assert!(rt; !header.is_route_complete());
-    let own = Address::from_text(b"47002701").expect(&rt, "a title");
-    header.record_title(&own);
+    assert!(rt; is_changed(&mut header, &own));
+}
+
+const BEFORE: &[u8] =
+    b"\x81\x28\x01\x0a\x3c\x00\x2a\x09\x53\x04\x47\x00\x27\x01\x04\x47\x00\x27\x02\xc8\x07\x00\x03\x04\x47\x00\x27\xff\xcb\x07\x00\x03\x00\x00\x00\x00\x00\xc3\x01\xc0\x68\x69";
+
+const AFTER: &[u8] =
+    b"\x81\x28\x01\x0a\x3c\x00\x2a\x4f\x87\x04\x47\x00\x27\x01\x04\x47\x00\x27\x02\xc8\x07\x00\x08\x04\x47\x00\x27\xff\xcb\x07\x00\x08\x04\x47\x00\x27\x01\xc3\x01\xc8";
+
+/// Whether a header has no target left and no complete route, and is the one after the changes when a title is recorded
+/// and congestion marked.
+fn is_changed(header: &mut Header, own: &Address) -> bool {
+    if header.route_target().is_some() || header.is_route_complete() {
+        return false;
+    }
+    header.record_title(own);
     header.mark_congestion();
-    assert!(rt;
-        header.as_bytes()
-            == b"\x81\x28\x01\x0a\x3c\x00\x2a\x4f\x87\x04\x47\x00\x27\x01\x04\x47\x00\x27\x02\xc8\x07\x00\x08\x04\x47\x00\x27\xff\xcb\x07\x00\x08\x04\x47\x00\x27\x01\xc3\x01\xc8".as_slice()
-    );
+    header.as_bytes() == AFTER
 }

@@ -59,51 +59,61 @@ fn cut_again(cuts: &mut Cuts) -> Option<Cuts>
     Cuts::new(head, cut.len, 512).ok()
 }
 
-/// A unit of 3,000 octets for MTUs that it passes, fits exactly, and passes by one octet.
-#[test]
-fn cuts_a_unit(rt: HostRuntime) {
-    let rows: [(u16, &[Piece]); 3] = [
-        (
-            1500,
-            &[
-                (0, 0, 1472, true),
-                (1472, 1472, 1472, true),
-                (2944, 2944, 56, false),
-            ],
-        ),
-        (3025, &[(0, 0, 3000, false)]),
-        (3024, &[(0, 0, 2992, true), (2992, 2992, 8, false)]),
-    ];
-    for (mtu, want) in rows {
-        assert!(rt; mtu >= 512);
-        let Some(cuts) = cuts_of(mtu) else {
-            panic!(rt; "no pieces")
-        };
-        assert!(rt; has_pieces(cuts, want), "at {mtu}");
+/// MTUs that a unit of 3,000 octets passes, fits exactly, and passes by one octet, and its pieces for these.
+const ROWS: [(u16, &[Piece]); 3] = [
+    (
+        1500,
+        &[
+            (0, 0, 1472, true),
+            (1472, 1472, 1472, true),
+            (2944, 2944, 56, false),
+        ],
+    ),
+    (3025, &[(0, 0, 3000, false)]),
+    (3024, &[(0, 0, 2992, true), (2992, 2992, 8, false)]),
+];
+
+/// Whether the unit is cut into these pieces.
+fn is_cut(mtu: u16, want: &[Piece]) -> bool {
+    if mtu < 512 {
+        return false;
+    }
+    match cuts_of(mtu) {
+        Some(cuts) => has_pieces(cuts, want),
+        None => false,
     }
 }
+
+#[test]
+fn cuts_a_unit(rt: HostRuntime) {
+    for (mtu, want) in &ROWS {
+        assert!(rt; is_cut(*mtu, want), "at {mtu}");
+    }
+}
+
+/// The pieces of each piece for an MTU of 1,500, when it is cut for one of 512.
+const AGAIN: [&[Piece]; 3] = [
+    &[
+        (0, 0, 480, true),
+        (480, 480, 480, true),
+        (960, 960, 480, true),
+        (1440, 1440, 32, true),
+    ],
+    &[
+        (1472, 0, 480, true),
+        (1952, 480, 480, true),
+        (2432, 960, 480, true),
+        (2912, 1440, 32, true),
+    ],
+    &[(2944, 0, 56, false)],
+];
 
 #[test]
 fn cuts_pieces_again(rt: HostRuntime) {
     let Some(mut cuts) = cuts_of(1500) else {
         panic!(rt; "no pieces")
     };
-    let rows: [&[Piece]; 3] = [
-        &[
-            (0, 0, 480, true),
-            (480, 480, 480, true),
-            (960, 960, 480, true),
-            (1440, 1440, 32, true),
-        ],
-        &[
-            (1472, 0, 480, true),
-            (1952, 480, 480, true),
-            (2432, 960, 480, true),
-            (2912, 1440, 32, true),
-        ],
-        &[(2944, 0, 56, false)],
-    ];
-    for want in rows {
+    for want in &AGAIN {
         let Some(again) = cut_again(&mut cuts) else {
             panic!(rt; "no piece")
         };
@@ -127,19 +137,27 @@ fn begins_with(mut cuts: Cuts, header: &[u8]) -> bool {
     }
 }
 
+/// Whether the first piece of the next piece has this header.
+fn begins_again_with(mut cuts: Cuts, header: &[u8]) -> bool
+    requires { AllByRecursion (IsCutOf 3000) cuts }
+{
+    match cut_again(&mut cuts) {
+        Some(again) => begins_with(again, header),
+        None => false,
+    }
+}
+
+/// Whether the first piece, and the first of its pieces, have these headers.
+fn begin_with(first: &[u8], smaller: &[u8]) -> bool {
+    match (cuts_of(1500), cuts_of(1500)) {
+        (Some(cuts), Some(same)) => begins_with(cuts, first) && begins_again_with(same, smaller),
+        _ => false,
+    }
+}
+
 #[test]
 fn makes_the_first_headers(rt: HostRuntime) {
-    let Some(mut cuts) = cuts_of(1500) else {
-        panic!(rt; "no pieces")
-    };
-    let Some(again) = cut_again(&mut cuts) else {
-        panic!(rt; "no piece")
-    };
-    assert!(rt; begins_with(again, SMALLER));
-    let Some(cuts) = cuts_of(1500) else {
-        panic!(rt; "no pieces")
-    };
-    assert!(rt; begins_with(cuts, FIRST));
+    assert!(rt; begin_with(FIRST, SMALLER));
 }
 
 /// How many octets of data the PDU has, where it is its own single piece with this header.

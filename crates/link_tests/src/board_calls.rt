@@ -112,14 +112,22 @@ fn drops_the_links_that_are_gone(rt: HostRuntime) {
     let second = no_notes(alloc).expect(&rt, "memory");
     let mut board = board_of(alloc, &[1], &first, &second).expect(&rt, "memory");
     let mut room = vec![in alloc; 0u8; 70_000].expect(&rt, "memory");
-    assert!(rt; look(&mut board, 0, room.as_mut_slice()) == Some(Polled::Detached));
-    assert!(rt; !is_dropped(&first));
+    assert!(rt; loses_first(&mut board, room.as_mut_slice()) && !is_dropped(&first));
     board.drop_gone();
     assert!(rt; is_dropped(&first) && !is_dropped(&second));
-    assert!(rt; board.len() == 2 && saw_two(look(&mut board, 1, room.as_mut_slice())));
-    assert!(rt; look(&mut board, 0, room.as_mut_slice()).is_none());
+    assert!(rt; keeps_second(&mut board, room.as_mut_slice()));
     board.drop();
     assert!(rt; is_dropped(&second));
+}
+
+/// Whether the first link is gone at a look.
+fn loses_first(board: &mut Board, buf: &mut [u8]) -> bool {
+    look(board, 0, buf) == Some(Polled::Detached)
+}
+
+/// Whether a board of two still has both ports, and sees what comes on the second one alone.
+fn keeps_second(board: &mut Board, buf: &mut [u8]) -> bool {
+    board.len() == 2 && saw_two(look(board, 1, buf)) && look(board, 0, buf).is_none()
 }
 
 /// Whether it is noted that the link was dropped.

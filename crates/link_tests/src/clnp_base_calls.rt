@@ -53,9 +53,14 @@ fn is_held(sink: &mut MemSink, piece: &[u8], answer: Result<(), Failed>, held: &
 #[test]
 fn writes_whole_pieces(rt: HostRuntime) {
     let mut sink = MemSink::new(rt.alloc(), 5, 1, Vec::new(rt.alloc())).expect(&rt, "memory");
-    assert!(rt; is_held(&mut sink, b"abc", Ok(()), b"abc"));
-    assert!(rt; is_held(&mut sink, b"def", Err(Failed), b"abcde"));
-    assert!(rt; sink.write(b"") == Ok(0));
+    assert!(rt; fills_up(&mut sink));
+}
+
+/// Whether a sink with room for five octets takes the first of these pieces, two octets of the next, and an empty one.
+fn fills_up(sink: &mut MemSink) -> bool {
+    is_held(sink, b"abc", Ok(()), b"abc")
+        && is_held(sink, b"def", Err(Failed), b"abcde")
+        && sink.write(b"") == Ok(0)
 }
 
 #[test]
@@ -106,21 +111,23 @@ fn fails_where_the_machine_fails(rt: HostRuntime) {
     assert!(rt; StdSink::new(Broken).write(b"") == Ok(0));
 }
 
+/// Words, and the numbers that they are.
+const DECIMALS: [(&[u8], Option<u64>); 9] = [
+    (b"0", Some(0)),
+    (b"007", Some(7)),
+    (b"18446744073709551615", Some(u64::MAX)),
+    (b"18446744073709551616", None),
+    (b"123456789012345678901234567890", None),
+    (b"", None),
+    (b"12a", None),
+    (b"-1", None),
+    (b"+1", None),
+];
+
 #[test]
 fn reads_decimals(rt: HostRuntime) {
-    let table = [
-        (b"0".as_slice(), Some(0)),
-        (b"007".as_slice(), Some(7)),
-        (b"18446744073709551615".as_slice(), Some(u64::MAX)),
-        (b"18446744073709551616".as_slice(), None),
-        (b"123456789012345678901234567890".as_slice(), None),
-        (b"".as_slice(), None),
-        (b"12a".as_slice(), None),
-        (b"-1".as_slice(), None),
-        (b"+1".as_slice(), None),
-    ];
-    for (word, want) in table {
-        assert!(rt; decimal(word) == want);
+    for (word, want) in &DECIMALS {
+        assert!(rt; decimal(word) == *want);
     }
 }
 
@@ -137,8 +144,7 @@ fn push_each(out: &mut Vec<u8>) -> Result<(), NoMemory> {
 #[test]
 fn puts_text_out(rt: HostRuntime) {
     let mut out = Vec::new(rt.alloc());
-    assert!(rt; push_each(&mut out) == Ok(()));
-    assert!(rt; push_unhex(b"009Fa0fF", &mut out) == Ok(()));
+    assert!(rt; push_each(&mut out).is_ok() && push_unhex(b"009Fa0fF", &mut out).is_ok());
     let octets = Octets::copy(rt.alloc(), &out).expect(&rt, "memory");
     assert!(rt;
         octets.as_bytes() == b"id 009fa0ff 0 18446744073709551615\x00\x9f\xa0\xff".as_slice()

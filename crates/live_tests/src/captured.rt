@@ -1,13 +1,11 @@
 //! A run over a link that plays an Ethernet capture.
 
-use crate::clock::moments;
-use link_board::base::{MemClock, MemSink, lines};
+use crate::running::{new_sink, run};
+use link_board::base::NoMemory;
 use link_board::{Board, Link};
-use live_node::run_node;
 use pcap_link::PcapLink;
-use scenario::read_for_run;
 use std::alloc::Global;
-use std::process::Abort;
+use std::mem::forget;
 
 /// A host alone.
 const HOST: &[u8] = b"clnp-sim 1
@@ -33,22 +31,20 @@ const HANDED_UP: &[u8] = b"0 b got 47002702 47002701 6869
 end 0 0
 ";
 
+/// A board of a link that plays the capture.
+fn board_of(alloc: Global) -> Result<Board, NoMemory> {
+    let link = PcapLink::new(Vec::from_slice(alloc, CAPTURE)?);
+    let mut links: Vec<Box<dyn Link>> = Vec::new(alloc);
+    links.push(Box::new(alloc, link)?)?;
+    Board::new(alloc, links)
+}
+
 #[test]
 fn a_captured_unit_is_handed_up(rt: HostRuntime) {
-    let alloc = rt.alloc();
-    let file = Vec::from_slice(alloc, CAPTURE).expect(&rt, "memory");
-    let mut links: Vec<Box<dyn Link>> = Vec::new(alloc);
-    links
-        .push(Box::new(alloc, PcapLink::new(file)).expect(&rt, "memory"))
-        .expect(&rt, "memory");
-    let mut board = Board::new(alloc, links).expect(&rt, "memory");
-    let mut sink = MemSink::new(alloc, 1_000, 10, Vec::new(alloc)).expect(&rt, "memory");
-    // Its clause: a text has no more lines than octets, so that this one is short.
-    let _lines = lines(HOST);
-    let scenario = read_for_run(alloc, HOST, 1).expect(&rt, "a scenario");
-    let mut clock = MemClock::new(moments(alloc).expect(&rt, "memory"));
+    let mut board = board_of(rt.alloc()).expect(&rt, "memory");
+    let mut sink = new_sink(rt.alloc()).expect(&rt, "memory");
     assert!(rt; board.len() == 1);
-    let came = run_node(alloc, &scenario, 1, &mut board, &mut clock, &mut sink);
-    assert!(rt; came == Ok(()));
+    assert!(rt; run(&rt, HOST, 1, &mut board, &mut sink, rt.alloc()) == Ok(()));
     assert!(rt; sink.as_bytes() == HANDED_UP);
+    forget(board);
 }

@@ -8,4 +8,6 @@ mod clock;
 #[cfg(test)]
 mod noting;
 #[cfg(test)]
+mod running;
+#[cfg(test)]
 mod runs;

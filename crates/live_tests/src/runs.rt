@@ -1,13 +1,15 @@
 //! Runs of a router over two links.
 
-use crate::clock::moments;
-use crate::noting::{is_dropped, no_notes, noting_link};
-use link_board::base::{MemClock, MemSink, lines};
-use link_board::{Board, Link, Ports};
-use live_node::{RunStop, run_node};
-use scenario::read_for_run;
+use crate::noting::{Notes, is_dropped, no_notes, noting_link};
+use crate::running::{new_sink, run};
+use link_board::base::NoMemory;
+use link_board::{Board, Link};
+use live_node::RunStop;
 use std::alloc::Global;
+use std::cell::RefCell;
+use std::mem::forget;
 use std::process::Abort;
+use std::rc::Rc;
 
 /// A router with a route that leads out of its second port.
 const TEXT: &[u8] = b"clnp-sim 1
@@ -37,19 +39,36 @@ const BOTH_GONE: &[u8] = b"0 r link 0 gone
 0 r link 1 gone
 ";
 
-/// Runs the router so many turns over ports.
-fn run<B: Ports>(
-    rt: &impl Abort,
+/// A board of two noting links, of which the first gives the unit, and each fails at these calls.
+fn board_of(
     alloc: Global,
-    turns: u32,
-    board: &mut B,
-    sink: &mut MemSink,
-) -> Result<(), RunStop> {
-    // Its clause: a text has no more lines than octets, so that this one is short.
-    let _lines = lines(TEXT);
-    let scenario = read_for_run(alloc, TEXT, board.count()).expect(rt, "a scenario");
-    let mut clock = MemClock::new(moments(alloc).expect(rt, "memory"));
-    run_node(alloc, &scenario, turns, board, &mut clock, sink)
+    first: (&[u64], &Rc<RefCell<Notes>>),
+    second: (&[u64], &Rc<RefCell<Notes>>),
+) -> Result<Board, NoMemory> {
+    let mut links: Vec<Box<dyn Link>> = Vec::new(alloc);
+    push_link(alloc, &[CAME], first, &mut links)?;
+    push_link(alloc, &[], second, &mut links)?;
+    Board::new(alloc, links)
+}
+
+/// Puts such a link behind others.
+fn push_link(
+    alloc: Global,
+    frames: &[&[u8]],
+    (fails, notes): (&[u64], &Rc<RefCell<Notes>>),
+    links: &mut Vec<Box<dyn Link>>,
+) -> Result<(), NoMemory> {
+    let link = noting_link(alloc, frames, fails, notes)?;
+    links.push(Box::new(alloc, link)?)?;
+    Ok(())
+}
+
+/// Whether it is noted that so many looks were empty, and that these octets were sent.
+fn is_noted(notes: &Rc<RefCell<Notes>>, empties: u64, sent: &[u8]) -> bool {
+    match notes.try_borrow() {
+        Ok(notes) => notes.empties == empties && notes.sent.as_slice() == sent,
+        Err(_) => false,
+    }
 }
 
 #[test]
@@ -57,24 +76,14 @@ fn a_link_fails_and_the_run_goes_on(rt: HostRuntime) {
     let alloc = rt.alloc();
     let first = no_notes(alloc).expect(&rt, "memory");
     let second = no_notes(alloc).expect(&rt, "memory");
-    let mut links: Vec<Box<dyn Link>> = Vec::new(alloc);
-    let giving = noting_link(alloc, &[CAME], &[], &first).expect(&rt, "memory");
-    links
-        .push(Box::new(alloc, giving).expect(&rt, "memory"))
-        .expect(&rt, "memory");
-    let failing = noting_link(alloc, &[], &[1], &second).expect(&rt, "memory");
-    links
-        .push(Box::new(alloc, failing).expect(&rt, "memory"))
-        .expect(&rt, "memory");
-    let mut board = Board::new(alloc, links).expect(&rt, "memory");
-    let mut sink = MemSink::new(alloc, 1_000, 10, Vec::new(alloc)).expect(&rt, "memory");
-    let came = run(&rt, alloc, 2, &mut board, &mut sink);
-    assert!(rt; came == Ok(()));
+    let mut board = board_of(alloc, (&[], &first), (&[1], &second)).expect(&rt, "memory");
+    let mut sink = new_sink(alloc).expect(&rt, "memory");
+    assert!(rt; run(&rt, TEXT, 2, &mut board, &mut sink, alloc) == Ok(()));
     assert!(rt; sink.as_bytes() == GONE_AT_SENDING);
     board.drop_gone();
     assert!(rt; !is_dropped(&first) && is_dropped(&second));
-    let seen = first.try_borrow().expect(&rt, "free");
-    assert!(rt; seen.empties == 1 && seen.sent.is_empty());
+    assert!(rt; is_noted(&first, 1, b""));
+    forget(board);
 }
 
 #[test]
@@ -82,22 +91,14 @@ fn a_run_ends_without_links(rt: HostRuntime) {
     let alloc = rt.alloc();
     let first = no_notes(alloc).expect(&rt, "memory");
     let second = no_notes(alloc).expect(&rt, "memory");
-    let mut links: Vec<Box<dyn Link>> = Vec::new(alloc);
-    let giving = noting_link(alloc, &[CAME], &[1], &first).expect(&rt, "memory");
-    links
-        .push(Box::new(alloc, giving).expect(&rt, "memory"))
-        .expect(&rt, "memory");
-    let failing = noting_link(alloc, &[], &[1], &second).expect(&rt, "memory");
-    links
-        .push(Box::new(alloc, failing).expect(&rt, "memory"))
-        .expect(&rt, "memory");
-    let mut board = Board::new(alloc, links).expect(&rt, "memory");
-    let mut sink = MemSink::new(alloc, 1_000, 10, Vec::new(alloc)).expect(&rt, "memory");
-    let came = run(&rt, alloc, 2, &mut board, &mut sink);
+    let mut board = board_of(alloc, (&[1], &first), (&[1], &second)).expect(&rt, "memory");
+    let mut sink = new_sink(alloc).expect(&rt, "memory");
+    let came = run(&rt, TEXT, 2, &mut board, &mut sink, alloc);
     assert!(rt; came == Err(RunStop::LinksGone { links: 2 }));
     assert!(rt; sink.as_bytes() == BOTH_GONE);
     board.drop_gone();
     assert!(rt; is_dropped(&first) && is_dropped(&second));
+    forget(board);
 }
 
 /// The unit as the router sends it on.
@@ -109,25 +110,14 @@ const SENT_ON: &[u8] =
 fn see_failure(rt: &impl Abort, alloc: Global, call: u64, sent: &[u8]) {
     let first = no_notes(alloc).expect(rt, "memory");
     let second = no_notes(alloc).expect(rt, "memory");
-    let mut links: Vec<Box<dyn Link>> = Vec::new(alloc);
-    let failing = noting_link(alloc, &[CAME], &[call], &first).expect(rt, "memory");
-    links
-        .push(Box::new(alloc, failing).expect(rt, "memory"))
-        .expect(rt, "memory");
-    let steady = noting_link(alloc, &[], &[], &second).expect(rt, "memory");
-    links
-        .push(Box::new(alloc, steady).expect(rt, "memory"))
-        .expect(rt, "memory");
-    let mut board = Board::new(alloc, links).expect(rt, "memory");
-    let mut sink = MemSink::new(alloc, 1_000, 10, Vec::new(alloc)).expect(rt, "memory");
-    let came = run(rt, alloc, 3, &mut board, &mut sink);
-    assert!(rt; came == Ok(()));
-    let seen = second.try_borrow().expect(rt, "free");
-    assert!(rt; seen.empties == 3);
-    assert!(rt; seen.sent.as_slice() == sent);
+    let mut board = board_of(alloc, (&[call], &first), (&[], &second)).expect(rt, "memory");
+    let mut sink = new_sink(alloc).expect(rt, "memory");
+    assert!(rt; run(rt, TEXT, 3, &mut board, &mut sink, alloc) == Ok(()));
+    assert!(rt; is_noted(&second, 3, sent));
     board.drop_gone();
     // Three turns have three looks at the first link, so a fourth call never comes.
     assert!(rt; is_dropped(&first) == (call <= 3));
+    forget(board);
 }
 
 #[test]

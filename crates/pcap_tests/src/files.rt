@@ -4,7 +4,7 @@ ghost use Rattle.std.specs.Prelude.{◌≤◌};
 use crate::told::is_told;
 use pcap_frames::base::push_unhex;
 use pcap_frames::{PcapFault, PcapReader};
-use std::alloc::{AllocError, Global};
+use std::alloc::Global;
 
 /// A file: its first 24 octets and what follows, in hexadecimal digits, and what it is read as.
 type Row = (&'static [u8], &'static [u8], &'static [u8]);
@@ -208,9 +208,12 @@ fn is_read(alloc: Global, row: &Row, most: usize) -> bool
 
 /// Whether each file is read as it says, in pieces of one octet, of 13 and whole.
 fn are_read(alloc: Global, rows: &[Row]) -> bool {
-    rows.iter().all(|row| is_read(alloc, row, 1)
-        && is_read(alloc, row, 13)
-        && is_read(alloc, row, 4096))
+    for row in rows {
+        if !(is_read(alloc, row, 1) && is_read(alloc, row, 13) && is_read(alloc, row, 4096)) {
+            return false;
+        }
+    }
+    true
 }
 
 #[test]
@@ -228,34 +231,33 @@ fn says_how_files_end(rt: HostRuntime) {
     assert!(rt; are_read(rt.alloc(), &ENDS));
 }
 
-/// A header, 16 octets of a record, and so many zeros.
-fn long_file(alloc: Global, record: &[u8], zeros: usize) -> Result<Vec<u8>, AllocError> {
+/// Whether a header, 16 octets of a record, and so many zeros are read as this.
+fn is_long_read(alloc: Global, record: &[u8], zeros: usize, want: &[u8]) -> bool {
     let mut file = Vec::new(alloc);
-    if push_unhex(HEADER, &mut file).is_err() || push_unhex(record, &mut file).is_err() {
-        return Err(AllocError);
-    }
-    let whole = file.len().saturating_add(zeros);
-    file.resize(whole, 0)?;
-    Ok(file)
+    push_unhex(HEADER, &mut file).is_ok()
+        && push_unhex(record, &mut file).is_ok()
+        && file.resize(file.len().saturating_add(zeros), 0).is_ok()
+        && is_told(alloc, &file, 4096, want)
 }
 
 #[test]
 fn reads_262144_octets_and_no_more(rt: HostRuntime) {
-    let longest = long_file(rt.alloc(), b"00000001000000020004000000040000", 262_144).expect(
-        &rt, "memory",
-    );
-    let want = b"1 2 262144 262144 other; end".as_slice();
-    assert!(rt; is_told(rt.alloc(), &longest, 4096, want));
-    let longer = long_file(rt.alloc(), b"00000001000000020004000100040001", 0).expect(
-        &rt, "memory",
-    );
-    assert!(rt; is_told(rt.alloc(), &longer, 4096, b"length 262145"));
+    let longest = b"00000001000000020004000000040000";
+    let want = b"1 2 262144 262144 other; end";
+    assert!(rt; is_long_read(rt.alloc(), longest, 262_144, want));
+    let longer = b"00000001000000020004000100040001";
+    assert!(rt; is_long_read(rt.alloc(), longer, 0, b"length 262145"));
+}
+
+/// Whether a new reader tells a fault, and tells it again.
+fn is_faulty(reader: &mut PcapReader) -> bool {
+    reader.feed(&[0; 30]) == Err(PcapFault::Magic)
+        && reader.feed(b"") == Err(PcapFault::Magic)
+        && reader.end().is_ok()
 }
 
 #[test]
 fn tells_a_fault_again(rt: HostRuntime) {
     let mut reader = PcapReader::new(rt.alloc()).expect(&rt, "memory");
-    assert!(rt; reader.feed(&[0; 30]) == Err(PcapFault::Magic));
-    assert!(rt; reader.feed(b"") == Err(PcapFault::Magic));
-    assert!(rt; reader.end() == Ok(()));
+    assert!(rt; is_faulty(&mut reader));
 }

@@ -1,6 +1,6 @@
 //! Frames at the bounds of each field.
 use crate::told::tell_seen;
-use pcap_frames::base::push_unhex;
+use pcap_frames::base::{NoMemory, push, push_unhex};
 use std::alloc::Global;
 
 /// A frame in hexadecimal digits, and what is seen in it.
@@ -58,18 +58,29 @@ fn is_seen(alloc: Global, digits: &[u8], zeros: usize, want: &[u8]) -> bool {
 
 #[test]
 fn sees_frames(rt: HostRuntime) {
-    for (digits, want) in FRAMES {
+    for (digits, want) in &FRAMES {
         assert!(rt; is_seen(rt.alloc(), digits, 0, want));
     }
 }
 
 #[test]
 fn sees_the_longest_pdu(rt: HostRuntime) {
-    let digits = b"09002b0000050a000000000105dcfefe03".as_slice();
-    let mut want = Vec::from_slice(rt.alloc(), b"09002b000005-0a0000000001-").expect(&rt, "memory");
-    let whole = want.len().saturating_add(2 * 1497);
-    assert!(rt; want.resize(whole, b'0').is_ok());
-    assert!(rt; is_seen(rt.alloc(), digits, 1497, &want));
-    assert!(rt; is_seen(rt.alloc(), digits, 1600, &want));
-    assert!(rt; is_seen(rt.alloc(), digits, 1496, b"cut"));
+    let mut want = Vec::new(rt.alloc());
+    assert!(rt; push_longest(&mut want).is_ok());
+    assert!(rt; is_seen_with(rt.alloc(), &want));
+}
+
+/// Appends what is seen in a frame with a PDU of 1,497 zeros.
+fn push_longest(want: &mut Vec<u8>) -> Result<(), NoMemory> {
+    push(b"09002b000005-0a0000000001-", want)?;
+    Ok(want.resize(26 + 2 * 1497, b'0')?)
+}
+
+/// Whether this is seen in a frame with a length of 1,500 and as many octets, and in one with more, and not in one with
+/// fewer.
+fn is_seen_with(alloc: Global, want: &[u8]) -> bool {
+    let digits = b"09002b0000050a000000000105dcfefe03";
+    is_seen(alloc, digits, 1497, want)
+        && is_seen(alloc, digits, 1600, want)
+        && is_seen(alloc, digits, 1496, b"cut")
 }

@@ -1,23 +1,31 @@
 //! Records read where they stand.
 use crate::told::tell_record;
-use pcap_frames::base::{push, push_unhex};
+use pcap_frames::base::{NoMemory, push, push_unhex};
 use pcap_frames::{HEADER, first_record, judge_header};
 use std::alloc::Global;
 
+/// Appends what the record behind a file's header tells.
+fn tell_first(file: &[u8], out: &mut Vec<u8>) -> Result<(), NoMemory> {
+    if file.len() < HEADER {
+        return push(b"cut", out);
+    }
+    let (header, rest) = file.split_at(HEADER);
+    let Ok(order) = judge_header(header) else {
+        return push(b"fault", out);
+    };
+    match first_record(order, rest) {
+        Some(record) => tell_record(&record, out),
+        None => push(b"none", out),
+    }
+}
+
 /// Whether what a file's header and the record behind it tell is this; it is given in hexadecimal digits.
 fn is_first(alloc: Global, digits: &[u8], want: &[u8]) -> bool {
-    let (mut file, mut out) = (Vec::new(alloc), Vec::new(alloc));
-    if push_unhex(digits, &mut file).is_err() || file.len() < HEADER {
-        return false;
-    }
-    let Ok(order) = judge_header(&file[..HEADER]) else {
-        return false;
-    };
-    let told = match first_record(order, &file[HEADER..]) {
-        Some(record) => tell_record(&record, &mut out),
-        None => push(b"none", &mut out),
-    };
-    told.is_ok() && out.as_slice() == want
+    let mut file = Vec::new(alloc);
+    let mut out = Vec::new(alloc);
+    push_unhex(digits, &mut file).is_ok()
+        && tell_first(&file, &mut out).is_ok()
+        && out.as_slice() == want
 }
 
 #[test]

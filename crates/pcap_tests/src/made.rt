@@ -55,9 +55,12 @@ fn size_made(alloc: Global, octets: usize) -> Option<usize> {
     Some(record.len())
 }
 
+/// How many octets a PDU has, and its record.
+const SIZES: [(usize, usize); 5] = [(1, 76), (42, 76), (43, 76), (44, 77), (1497, 1530)];
+
 #[test]
 fn fills_up_to_60_octets(rt: HostRuntime) {
-    for (octets, size) in [(1, 76), (42, 76), (43, 76), (44, 77), (1497, 1530)] {
-        assert!(rt; size_made(rt.alloc(), octets) == Some(size));
+    for (octets, size) in &SIZES {
+        assert!(rt; size_made(rt.alloc(), *octets) == Some(*size));
     }
 }

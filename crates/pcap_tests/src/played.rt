@@ -180,39 +180,62 @@ fn is_played(alloc: Global, row: &Row, buf: &mut [u8]) -> bool
     tell_looks(&mut link, row.2, buf, &mut out).is_ok() && out.as_slice() == row.3
 }
 
+/// Whether looks at links that play these files see what each says.
+fn are_played(rows: &[Row], alloc: Global, buf: &mut [u8]) -> bool {
+    if buf.len() < 70_000 {
+        return false;
+    }
+    for row in rows {
+        if !is_played(alloc, row, buf) {
+            return false;
+        }
+    }
+    true
+}
+
 #[test]
 fn plays_the_frames_of_a_file(rt: HostRuntime) {
     let mut room = vec![in rt.alloc(); 0u8; 70_000].expect(&rt, "memory");
-    let buf = room.as_mut_slice();
-    assert!(rt; buf.len() >= 70_000);
-    for row in &FILES {
-        assert!(rt; is_played(rt.alloc(), row, buf));
-    }
+    assert!(rt; are_played(&FILES, rt.alloc(), room.as_mut_slice()));
 }
 
 #[test]
 fn plays_nothing_where_no_frame_is(rt: HostRuntime) {
     let mut room = vec![in rt.alloc(); 0u8; 70_000].expect(&rt, "memory");
-    let buf = room.as_mut_slice();
-    assert!(rt; buf.len() >= 70_000);
-    for row in &NOTHING {
-        assert!(rt; is_played(rt.alloc(), row, buf));
+    assert!(rt; are_played(&NOTHING, rt.alloc(), room.as_mut_slice()));
+}
+
+/// Whether a look at a link sees this PDU, through a group.
+fn is_seen<L: Link>(link: &mut L, pdu: &[u8], buf: &mut [u8]) -> bool
+    requires { 70000 ≤ length buf.old }
+{
+    match link.poll(buf) {
+        Ok(Some(got)) => got.group && got.len == pdu.len() && buf.get(..got.len) == Some(pdu),
+        _ => false,
     }
+}
+
+/// Whether a link takes what is sent before and after a look that sees this PDU, and then sees nothing.
+fn takes_and_plays<L: Link>(link: &mut L, pdu: &[u8], buf: &mut [u8]) -> bool {
+    buf.len() >= 70_000
+        && link.send(Target::Routers, b"he", b"ad").is_ok()
+        && is_seen(link, pdu, buf)
+        && link.send(Target::EndSystems, b"", b"").is_ok()
+        && matches!(link.poll(buf), Ok(None))
+}
+
+/// Appends the file of a PDU.
+fn put_file(pdu: &[u8], file: &mut Vec<u8>) -> Result<(), NoMemory> {
+    put_header(file)?;
+    put(0, pdu, file)
 }
 
 #[test]
 fn plays_the_longest_pdu_and_takes_what_is_sent(rt: HostRuntime) {
     let mut room = vec![in rt.alloc(); 0u8; 70_000].expect(&rt, "memory");
-    let buf = room.as_mut_slice();
-    assert!(rt; buf.len() >= 70_000);
-    let pdu = Vec::from_elem(rt.alloc(), 7, 1497).expect(&rt, "memory");
+    let pdu = [7; 1497];
     let mut file = Vec::new(rt.alloc());
-    assert!(rt; put_header(&mut file).is_ok() && put(0, &pdu, &mut file).is_ok());
+    assert!(rt; put_file(&pdu, &mut file).is_ok());
     let mut link = PcapLink::new(file);
-    assert!(rt; link.send(Target::Routers, b"he", b"ad") == Ok(()));
-    let look = link.poll(buf);
-    assert!(rt; matches!(look, Ok(Some(got)) if got.len == 1497 && got.group));
-    assert!(rt; buf.get(..1497) == Some(pdu.as_slice()));
-    assert!(rt; link.send(Target::EndSystems, b"", b"") == Ok(()));
-    assert!(rt; matches!(link.poll(buf), Ok(None)));
+    assert!(rt; takes_and_plays(&mut link, &pdu, room.as_mut_slice()));
 }

@@ -10,6 +10,18 @@ fn tell(alloc: Global, file: &[u8], most: usize, out: &mut Vec<u8>) -> Result<()
     requires { 1 ≤ most }
 {
     let mut reader = PcapReader::new(alloc)?;
+    tell_pieces(&mut reader, file, most, out)
+}
+
+/// Appends what a new reader reads a file as.
+fn tell_pieces(
+    reader: &mut PcapReader,
+    file: &[u8],
+    most: usize,
+    out: &mut Vec<u8>,
+) -> Result<(), NoMemory>
+    requires { 1 ≤ most }
+{
     let mut left = file;
     while !left.is_empty() {
         match reader.feed(&left[..most.min(left.len())]) {
@@ -36,13 +48,24 @@ fn tell_number(word: &[u8], number: u64, out: &mut Vec<u8>) -> Result<(), NoMemo
 
 /// Appends a record's seconds, fraction, original length and captured length, and what is seen in its frame.
 pub(crate) fn tell_record(record: &Record<'_>, out: &mut Vec<u8>) -> Result<(), NoMemory> {
-    tell_number(b"", u64::from(record.seconds), out)?;
-    tell_number(b" ", u64::from(record.fraction), out)?;
-    tell_number(b" ", u64::from(record.original), out)?;
-    tell_number(b" ", record.octets.len() as u64, out)?;
-    push(b" ", out)?;
+    let numbers = [
+        u64::from(record.seconds),
+        u64::from(record.fraction),
+        u64::from(record.original),
+        record.octets.len() as u64,
+    ];
+    tell_numbers(&numbers, out)?;
     tell_seen(record.octets, out)?;
     push(b"; ", out)
+}
+
+/// Appends numbers, each with a space behind it.
+fn tell_numbers(numbers: &[u64], out: &mut Vec<u8>) -> Result<(), NoMemory> {
+    for number in numbers {
+        push_decimal(*number, out)?;
+        push(b" ", out)?;
+    }
+    Ok(())
 }
 
 /// Appends what is seen in the octets of a frame.

@@ -1,9 +1,7 @@
 //! Links on 127.0.0.1, at ports that are free.
-ghost use Rattle.std.specs.Prelude.{◌≤◌, length};
-
 use std::alloc::Global;
 use std::net::{Ipv4Addr, Net, SocketAddr, SocketAddrV4, UdpSocket};
-use std::rt::Clock;
+use std::process::Abort;
 use udp_links::links::{Got, Link};
 use udp_links::words::{End, is_link_word};
 use udp_links::{Traffic, UdpLink};
@@ -26,60 +24,49 @@ pub fn end_at(port: u16) -> End {
     }
 }
 
-/// The link of this word, if it can be opened.
-pub fn opened<R: Net + AllocGlobal + Clock + Drop>(machine: R, word: &[u8]) -> Option<UdpLink<R>> {
-    let traffic = Traffic::new(machine.alloc()).ok()?;
-    opened_in(machine, word, traffic)
+/// The word of a link without peers at a port.
+pub fn lone_word(rt: &impl Abort, alloc: Global, port: u16) -> String {
+    format!(in alloc; "udp:127.0.0.1:{port}").expect(rt, "memory")
 }
 
-/// The link of this word and this traffic, if it can be opened.
-fn opened_in<R: Net + AllocGlobal + Clock + Drop>(
-    machine: R,
+/// The traffic of links that stand alone.
+pub fn no_traffic(rt: &impl Abort, alloc: Global) -> Traffic {
+    Traffic::new(alloc).expect(rt, "memory")
+}
+
+/// The link of this word and this traffic.
+pub fn opened(
+    rt: &impl Abort,
+    machine: &HostRuntime,
     word: &[u8],
     traffic: Traffic,
-) -> Option<UdpLink<R>> {
-    if !is_link_word(word) {
-        return None;
-    }
-    UdpLink::open(machine, word, traffic).ok()
+) -> UdpLink<HostRuntime> {
+    assert!(rt; is_link_word(word));
+    let machine = machine.clone().expect(rt, "memory");
+    UdpLink::open(machine, word, traffic)
+        .ok()
+        .expect(rt, "a link")
 }
 
 /// A link without peers at a free port, of this traffic, and that port.
-fn lone_link_in<R: Net + AllocGlobal + Clock + Drop>(
-    machine: R,
+pub fn lone_link(
+    rt: &impl Abort,
+    machine: &HostRuntime,
     traffic: Traffic,
-) -> Option<(UdpLink<R>, u16)> {
-    let port = free_port(&machine)?;
-    let word = format!(in machine.alloc(); "udp:127.0.0.1:{port}").ok()?;
-    let link = opened_in(machine, word.as_bytes(), traffic)?;
-    Some((link, port))
-}
-
-/// A link without peers at a free port, and that port.
-pub fn lone_link<R: Net + AllocGlobal + Clock + Drop>(machine: R) -> Option<(UdpLink<R>, u16)> {
-    let traffic = Traffic::new(machine.alloc()).ok()?;
-    lone_link_in(machine, traffic)
-}
-
-/// Two links of one traffic, each on a machine, without peers at free ports, and the port of the first.
-pub fn two_links<R: Net + AllocGlobal + Clock + Drop>(
-    machine: R,
-    other: R,
-) -> Option<(UdpLink<R>, UdpLink<R>, u16)> {
-    let traffic = Traffic::new(machine.alloc()).ok()?;
-    let share = traffic.share().ok()?;
-    let (first, port) = lone_link_in(machine, traffic)?;
-    let (second, _) = lone_link_in(other, share)?;
-    Some((first, second, port))
+) -> (UdpLink<HostRuntime>, u16) {
+    let port = free_port(machine).expect(rt, "a free port");
+    let word = lone_word(rt, machine.alloc(), port);
+    (opened(rt, machine, word.as_bytes(), traffic), port)
 }
 
 /// How often a datagram is looked for.
 const LOOKS: u8 = 200;
 
-/// What comes on a link within some looks.
-pub fn look_for<L: Link>(link: &mut L, buf: &mut [u8]) -> Option<Got>
-    requires { 70000 ≤ length buf.old }
-{
+/// What comes on a link within some looks, where there is room for them.
+pub fn look_for<L: Link>(link: &mut L, buf: &mut [u8]) -> Option<Got> {
+    if buf.len() < 70_000 {
+        return None;
+    }
     for _ in 0..LOOKS {
         match link.poll(buf) {
             Ok(None) => {}
@@ -91,15 +78,19 @@ pub fn look_for<L: Link>(link: &mut L, buf: &mut [u8]) -> Option<Got>
 }
 
 /// Whether just this comes on a link, from this end, and not through a group.
-pub fn brings<L: Link>(link: &mut L, buf: &mut [u8], from: End, wanted: &[u8]) -> bool
-    requires { 70000 ≤ length buf.old }
-{
+pub fn brings<L: Link>(link: &mut L, buf: &mut [u8], from: End, wanted: &[u8]) -> bool {
     match look_for(link, buf) {
-        Some(got) => {
-            !got.group
-                && got.from.as_bytes() == from.snpa().as_bytes()
-                && buf.get(..got.len) == Some(wanted)
-        }
+        Some(got) => is_from(&got, from) && buf.get(..got.len) == Some(wanted),
         None => false,
     }
+}
+
+/// Whether what came is from this end, and not through a group.
+fn is_from(got: &Got, from: End) -> bool {
+    !got.group && got.from.as_bytes() == from.snpa().as_bytes()
+}
+
+/// Whether a look at a link sees nothing.
+pub fn is_silent<L: Link>(link: &mut L, buf: &mut [u8]) -> bool {
+    buf.len() >= 70_000 && matches!(link.poll(buf), Ok(None))
 }
