@@ -45,7 +45,9 @@ impl Page {
     }
 
     /// Whether its runs are so few that a walk over them takes less than a search.
-    pub(crate) fn has_few(&self) -> bool {
+    pub(crate) fn has_few(&self) -> bool
+        ensures { result ≡ nat_lt (length self.now) 8 }
+    {
         self.runs.len() < FEW
     }
 

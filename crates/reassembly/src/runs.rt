@@ -302,7 +302,8 @@ pub(crate) fn has_hole(pages: &PagesPart<'_>, from: u16, to: u16, places: u16) -
     has_gap(pages, 0, places)
 }
 
-/// Whether a walk over all runs on some pages takes less than searches among them.
+/// Whether a walk over all runs on some pages takes less than searches among them. Either answer is right: it tells only which
+/// of two ways to the same end is taken.
 fn are_few(pages: &PagesPart<'_>) -> bool {
     pages.len() == 1 && pages.page(0).has_few()
 }
