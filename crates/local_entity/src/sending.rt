@@ -129,20 +129,20 @@ fn push_pieces(
     Ok(())
 }
 
-/// Appends the piece of a PDU that has this header and these data.
+/// Appends the piece of a PDU that has this header and these octets of data.
 fn push_piece(
     alloc: Global,
     head: &Header,
-    data: &[u8],
+    octets: &[u8],
     hop: &Hop,
     forwarded: bool,
     out: &mut Vec<Output>,
 ) -> Result<(), NoMemory>
     ensures given { OnOk result (out.new.items ≡ out.old.items
-        ++ Transmit (record { port = hop.now.port; to = hop.now.target; frame = head.now ++ data.now; forwarded = forwarded }) ∷ []) }
+        ++ Transmit (record { port = hop.now.port; to = hop.now.target; frame = head.now ++ octets.now; forwarded = forwarded }) ∷ []) }
     ensures none { OnErr result (out.new.items ≡ out.old.items) }
 {
-    let frame = joined(alloc, head.as_bytes(), data)?;
+    let frame = joined(alloc, head.as_bytes(), octets)?;
     out.reserve(1)?;
     out.push_reserved(Output::Transmit(Sending {
         port: hop.port,
