@@ -9,6 +9,7 @@ use scenario_writing::scenarios::system_plan::{
     Note, PortConfig, Role, Settings, SystemConfig, Why, journal_text, late_text, push_end,
     transmission_text, void_text,
 };
+use scenario_writing::scenarios::views::Frame;
 use std::alloc::Global;
 use std::mem::forget;
 use std::process::Abort;
@@ -77,7 +78,8 @@ fn writes_notes(rt: HostRuntime) {
 
 /// Appends the line of a frame.
 fn push_frame(rt: &impl Abort, alloc: Global, target: Target, frame: &[u8], out: &mut Vec<u8>) {
-    transmission_text(alloc, 3, b"r", 12, 7, target, frame, out).expect(rt, "memory");
+    let frame = Frame::copy(alloc, frame).expect(rt, "memory");
+    transmission_text(alloc, 3, b"r", 12, 7, target, &frame, out).expect(rt, "memory");
 }
 
 /// The lines of three frames.
@@ -97,6 +99,20 @@ fn writes_frames(rt: HostRuntime) {
     push_frame(&rt, alloc, Target::Routers, b"", &mut out);
     let text = b"3 r tx 12 7 es 8113010a\n3 r tx 12 7 02000000000b 8113\n3 r tx 12 7 is -\n";
     assert!(rt; out.as_slice() == text.as_slice());
+}
+
+/// The line of a frame whose header and data lie apart.
+#[test]
+fn writes_a_frame_in_two_parts(rt: HostRuntime) {
+    let alloc = rt.alloc();
+    let data = Frame::copy(alloc, b"hi").expect(&rt, "memory").into_view();
+    let header = b"\x81\x09\x01\x0a\x1c\x00\x0b\x00\x00";
+    let frame = Frame::with_data(alloc, header, &data, 0, 2).expect(&rt, "memory");
+    let mut out = Vec::new(alloc);
+    transmission_text(alloc, 3, b"r", 12, 7, Target::Routers, &frame, &mut out).expect(
+        &rt, "memory",
+    );
+    assert!(rt; out.as_slice() == b"3 r tx 12 7 is 8109010a1c000b00006869\n".as_slice());
 }
 
 /// Appends the lines of copies that come to nothing, and the last line.

@@ -36,12 +36,12 @@ pub mod base {
 
 /// The echo function.
 pub mod echoing {
-    pub use echo::{laws, matches, needs_id};
+    pub use echo::{laws, matches_parts, needs_id};
 }
 
 /// Error reports.
 pub mod reports {
-    pub use error_reports::{read, report};
+    pub use error_reports::{read, report_in};
 }
 
 /// Reassembly buffers.

@@ -5,7 +5,7 @@ use Rattle.pdu_header.specs.Nsap.Prefix.{prefix_text}
 use Rattle.pdu_header.specs.Nsap.Text.{hex_text}
 use Rattle.pdu_header.specs.Spelling.{pair_of}
 use Rattle.clnp_plan.specs.declared.line.Word.{Word}
-use Rattle.clnp_plan.specs.declared.line.Word.TheVariants.{Text, Number, KeyedNumber, Octet, Identifier, Octets, KeyedOctets, Address, Prefix, Pattern}
+use Rattle.clnp_plan.specs.declared.line.Word.TheVariants.{Text, Number, KeyedNumber, Octet, Identifier, Octets, Parts, KeyedOctets, Address, Prefix, Pattern}
 use Rattle.clnp_plan.specs.declared.journal.Start.{Start}
 use Rattle.clnp_plan.specs.Journal.{line_of}
 
@@ -16,6 +16,7 @@ word_text (KeyedNumber key number) = key.now ++ decimal number
 word_text (Octet octet) = hex_text (octet ∷ [])
 word_text (Identifier identifier) = hex_text (pair_of identifier)
 word_text (Octets octets) = hex_text octets.now
+word_text (Parts front behind) = hex_text front.now ++ hex_text behind.now
 word_text (KeyedOctets key octets) = key.now ++ hex_text octets.now
 word_text (Address address) = hex_text address.now
 word_text (Prefix prefix) = prefix_text prefix.now

@@ -8,13 +8,14 @@ ghost use Rattle.clnp_plan.specs.Journal.{ForNobody, Injected, Late, Lost, Noted
 ghost use Rattle.clnp_plan.specs.Words.{line_from, word_text};
 
 use crate::line::{
-    Word, kind_word, octets_word, on_or_off, push_line, push_line_of_six, target_text,
+    Word, frame_word, kind_word, octets_word, on_or_off, push_line, push_line_of_six, target_text,
 };
 use crate::note::{Note, Why};
 use esis_tables::{Heard, TableKind};
 use pdu_header::Kind;
 use pdu_header::base::{NoMemory, Octets};
 use pdu_header::nsaps::{Address, Snpa, Target};
+use pdu_header::views::Frame;
 use std::alloc::Global;
 
 /// Which lines of moves are written.
@@ -434,7 +435,7 @@ pub fn transmission_text<'a>(
     copy: u64,
     port: u8,
     target: Target,
-    frame: &'a [u8],
+    frame: &'a Frame,
     out: &mut Vec<u8>,
 ) -> Result<(), NoMemory>
     ensures written { OnOk result (out.new.items ≡ out.old.items
@@ -447,7 +448,7 @@ pub fn transmission_text<'a>(
         Word::Number(copy),
         Word::Number(u64::from(port)),
         target_text(&target),
-        octets_word(frame),
+        frame_word(frame),
     ];
     push_line(Word::Number(now), &words, out)
 }

@@ -29,7 +29,7 @@ pub mod nsaps {
 pub mod clnp {
     pub use pdu_header::{
         FIXED_PART, Header, HeaderRefusal, Kind, Parts, Pdu, Refusal, SEGMENTATION_PART, SegPart,
-        decode, laws,
+        decode, decode_frame, laws,
     };
 }
 

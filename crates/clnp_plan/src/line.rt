@@ -14,6 +14,7 @@ use itoa::Buffer;
 use pdu_header::Kind;
 use pdu_header::base::{NoMemory, copy_over, push};
 use pdu_header::nsaps::{Address, Prefix, Target};
+use pdu_header::views::Frame;
 
 /// The most decimal digits of a number.
 const MOST_DIGITS: usize = 20;
@@ -36,6 +37,8 @@ pub enum Word<'a> {
     Identifier(u16),
     /// Octets, in two hexadecimal digits each.
     Octets(&'a [u8]),
+    /// Octets in two parts, in two hexadecimal digits each.
+    Parts(&'a [u8], &'a [u8]),
     /// Octets behind a key.
     KeyedOctets(&'a [u8], &'a [u8]),
     /// An address, in two hexadecimal digits an octet.
@@ -178,6 +181,9 @@ fn room_for(word: &Word<'_>) -> usize
         Word::Octet(octet) => room_for_octets(&[octet]),
         Word::Identifier(identifier) => room_for_octets(&identifier.to_be_bytes()),
         Word::Octets(octets) => room_for_octets(octets),
+        Word::Parts(front, behind) => {
+            room_for_octets(front).saturating_add(room_for_octets(behind))
+        }
         Word::KeyedOctets(key, octets) => key.len().saturating_add(room_for_octets(octets)),
         Word::Address(address) => room_for_octets(address.as_bytes()),
         Word::Prefix(prefix) => room_for_prefix(prefix),
@@ -321,6 +327,10 @@ fn lay_other_word(word: &Word<'_>, at: usize, place: &mut [u8]) -> usize
         Word::Octet(octet) => lay_hex(&[octet], at, place),
         Word::Identifier(identifier) => lay_hex(&identifier.to_be_bytes(), at, place),
         Word::Octets(octets) => lay_hex(octets, at, place),
+        Word::Parts(front, behind) => {
+            let at = lay_hex(front, at, place);
+            lay_hex(behind, at, place)
+        }
         Word::KeyedOctets(key, octets) => {
             let at = lay(key, at, place);
             lay_hex(octets, at, place)
@@ -442,4 +452,15 @@ pub fn octets_word(octets: &[u8]) -> Word<'_>
         return Word::Text(b"-");
     }
     Word::Octets(octets)
+}
+
+/// The word of a frame's octets.
+pub fn frame_word(frame: &Frame) -> Word<'_>
+    ensures { word_text result ≡ octets_word frame.now }
+{
+    let (front, behind) = frame.parts();
+    if front.is_empty() {
+        return octets_word(behind);
+    }
+    Word::Parts(front, behind)
 }

@@ -1,11 +1,11 @@
 //! Up to 254 octets, which lie in the value itself.
-ghost use Rattle.std.specs.Prelude.{◌≡◌, ◌≤◌, length};
+ghost use Rattle.std.specs.Prelude.{◌≡◌, ◌+◌, ◌≤◌, ◌++◌, length};
 
 use clnp_base::InlineOctets;
 use std::marker::Model;
 
 /// The most octets of a head, as the header of a PDU has at most 254 (ISO/IEC 8473, section 7.2.3).
-const MOST: usize = 254;
+pub(crate) const MOST: usize = 254;
 
 /// 0 to 254 octets, as of a header.
 ///
@@ -34,6 +34,16 @@ impl Head {
         Head {
             octets: InlineOctets::of(octets),
         }
+    }
+
+    /// A copy of the octets of two parts, at most 254.
+    pub(crate) fn of_parts(front: &[u8], behind: &[u8]) -> Head
+        requires { length front.now + length behind.now ≤ 254 }
+        ensures { result ≡ front.now ++ behind.now }
+    {
+        let mut octets = InlineOctets::of(front);
+        octets.push(behind);
+        Head { octets }
     }
 
     /// The octets.

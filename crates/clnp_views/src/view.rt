@@ -1,8 +1,9 @@
 //! Views of frames.
-ghost use Rattle.std.specs.Prelude.{◌≡◌, ◌+◌, ◌≤◌, IfOk, length, take, drop};
+ghost use Rattle.std.specs.Prelude.{◌≡◌, ◌+◌, ◌≤◌, ◌++◌, IfOk, length, take, drop};
 ghost use Rattle.clnp_views.specs.Extent.{LiesWithin, part, seen, whole};
 
 use crate::frame::Frame;
+use crate::head::{Head, MOST as MOST_OF_HEAD};
 use clnp_base::NoMemory;
 use std::marker::Model;
 
@@ -66,17 +67,67 @@ impl View {
         }
     }
 
-    /// The octets that are seen.
-    pub fn bytes(&self) -> &[u8]
-        ensures octets { result.now ≡ seen self.now }
-        ensures len { length result.now ≡ self.now.len }
+    /// `len` of the octets, from place `from` of them, in two parts: what of them lies in the frame's short header, and
+    /// what is behind it.
+    pub fn parts(&self, from: usize, len: usize) -> (&[u8], &[u8])
+        requires { from + len ≤ self.now.len }
+        ensures octets { result.0.now ++ result.1.now ≡ take len (drop from (seen self.now)) }
     {
-        &self.frame.bytes()[self.from..self.from + self.len]
+        let (front, behind) = self.frame.parts();
+        let start = self.from + from;
+        if start >= front.len() {
+            let start = start - front.len();
+            return (&[], &behind[start..start + len]);
+        }
+        let here = front.len() - start;
+        if len <= here {
+            return (&front[start..start + len], &[]);
+        }
+        (&front[start..], &behind[..len - here])
+    }
+
+    /// A copy of the first octets that are seen, 254 of them where there are more, as many as a header may have.
+    pub fn first_octets(&self) -> Head
+        ensures { result ≡ take 254 (seen self.now) }
+    {
+        if self.len < MOST_OF_HEAD {
+            return self.head(self.len);
+        }
+        self.head(MOST_OF_HEAD)
+    }
+
+    /// A copy of the first `len` octets that are seen.
+    fn head(&self, len: usize) -> Head
+        requires few { len ≤ 254 }
+        requires within { len ≤ self.now.len }
+        ensures { result ≡ take len (seen self.now) }
+    {
+        let (front, behind) = self.parts(0, len);
+        Head::of_parts(front, behind)
+    }
+
+    /// The frame of which it is a view.
+    pub fn frame(&self) -> &Frame
+        ensures { result.now ≡ self.now.frame }
+    {
+        &self.frame
+    }
+
+    /// The place in the frame of its octet at a place.
+    pub(crate) fn place(&self, at: usize) -> usize
+        requires { at ≤ self.now.len }
+        ensures place { result ≡ self.now.from + at }
+        ensures within { LiesWithin self.now }
+    {
+        // Read for its range: no place of the view is past the frame's end.
+        let _len = self.frame.len();
+        self.from + at
     }
 
     /// How many octets are seen.
     pub fn len(&self) -> usize
-        ensures { result ≡ self.now.len }
+        ensures len { result ≡ self.now.len }
+        ensures octets { result ≡ length (seen self.now) }
     {
         self.len
     }

@@ -6,6 +6,7 @@ ghost use Rattle.clnp_world.specs.Lines.{Counted, Gains, IsTooGreat, Taken, both
 use clnp_machine::base::NoMemory;
 use clnp_machine::nsaps::{Snpa, Target};
 use clnp_machine::system_plan::Note;
+use clnp_machine::views::Frame;
 use std::alloc::Global;
 
 /// A line of a journal or of a trace, at a moment.
@@ -24,7 +25,7 @@ pub(crate) enum Line<'a> {
         copy: u64,
         port: u8,
         target: Target,
-        frame: &'a [u8],
+        frame: &'a Frame,
     },
     /// A copy that isn't there for a system to be given.
     Void {

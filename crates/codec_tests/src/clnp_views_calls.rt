@@ -2,6 +2,7 @@ ghost use Rattle.std.specs.Prelude.{◌≤◌, length};
 
 use captures::base::NoMemory;
 use pdu_header::views::{Frame, View};
+use std::alloc::Global;
 
 /// Octets 7 to 12 of a frame, for a further owner.
 fn last_of(frame: &Frame) -> Result<View, NoMemory>
@@ -20,7 +21,10 @@ fn first_of(frame: &Frame) -> Result<View, NoMemory>
 /// Whether a further owner of a view sees these octets.
 fn is_seen(view: View, want: &[u8]) -> bool {
     match view.share() {
-        Ok(view) => view.bytes() == want,
+        Ok(view) => {
+            let (front, behind) = view.parts(0, view.len());
+            front.is_empty() && behind == want
+        }
         Err(_) => false,
     }
 }
@@ -39,4 +43,31 @@ fn takes_octets_over(rt: HostRuntime) {
     let octets = Vec::from_slice(rt.alloc(), b"header, data").expect(&rt, "memory");
     let frame = Frame::from_vec(octets).expect(&rt, "memory");
     assert!(rt; is_seen(frame.into_view(), b"header, data"));
+}
+
+/// A header of nine octets, as its second octet says.
+const HEADER: &[u8] = b"\x81\x09\x01\x0a\x1c\x00\x0b\x00\x00";
+
+/// The frame of a header and of octets 3 and 4 of some data.
+fn with_header(alloc: Global, header: &[u8]) -> Result<Frame, NoMemory> {
+    let data = Frame::copy(alloc, b"unit")?.into_view();
+    Frame::with_data(alloc, header, &data, 2, 2)
+}
+
+#[test]
+fn shares_data_behind_a_short_header(rt: HostRuntime) {
+    let frame = with_header(rt.alloc(), HEADER).expect(&rt, "memory");
+    assert!(rt; frame.parts() == (HEADER, b"it".as_slice()));
+    assert!(rt; frame.len() == 11);
+    let view = frame.into_view();
+    assert!(rt; view.len() >= 10);
+    assert!(rt; view.parts(7, 3) == (b"\x00\x00".as_slice(), b"i".as_slice()));
+    let all = b"\x81\x09\x01\x0a\x1c\x00\x0b\x00\x00it";
+    assert!(rt; view.first_octets().as_bytes() == all.as_slice());
+}
+
+#[test]
+fn copies_data_behind_another_header(rt: HostRuntime) {
+    let frame = with_header(rt.alloc(), b"header, ").expect(&rt, "memory");
+    assert!(rt; frame.parts() == (b"".as_slice(), b"header, it".as_slice()));
 }

@@ -6,4 +6,4 @@ mod making;
 mod matching;
 
 pub use making::{needs_id, reply};
-pub use matching::matches;
+pub use matching::{matches, matches_parts};

@@ -1,3 +1,4 @@
 pub mod Reason
 pub mod Lengths
 pub mod Accepted
+mod FirstOctets

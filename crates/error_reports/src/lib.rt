@@ -6,5 +6,5 @@ pub mod laws;
 mod making;
 mod reading;
 
-pub use making::{MadeReport, report};
+pub use making::{MadeReport, report, report_in};
 pub use reading::{NotReport, Told, read};

@@ -2,6 +2,7 @@
 ghost use Rattle.std.specs.Prelude.{◌≡◌, ◌≤◌, ◌++◌, ◌∷◌, [], ℕ, IfSome, List, None, is_some, length, take, true};
 ghost use Rattle.pdu_header.specs.ClnpOptions.Grammar.{FitsKind};
 ghost use Rattle.pdu_header.specs.ClnpOptions.Parameter.{parameters, spelled};
+ghost use Rattle.pdu_header.specs.ClnpViews.Extent.{seen};
 ghost use Rattle.pdu_header.specs.Grammar.{Spells};
 ghost use Rattle.pdu_header.specs.Headers.{SpellsHeader};
 ghost use Rattle.pdu_header.specs.Parts.{AreFit, parts_length, parts_value};
@@ -10,6 +11,7 @@ ghost use Rattle.error_reports.specs.Report.{reason_option, report_of, source_of
 
 use pdu_header::nsaps::Address;
 use pdu_header::options::{OptionList, OptionRef};
+use pdu_header::views::View;
 use pdu_header::{Header, Kind, Parts, ReportTo, reportable};
 
 /// The error report of a frame's discard.
@@ -66,6 +68,37 @@ pub fn report(
         head: header(&parts, head_len),
         body_len: head_len,
     })
+}
+
+/// The same of a frame that is in view.
+pub fn report_in(
+    frame: &View,
+    own: &Address,
+    reason: u8,
+    place: u8,
+    life: u8,
+    sealed: bool,
+) -> Option<MadeReport>
+    ensures some { is_some result ≡ is_reportable (seen frame.now) }
+    ensures to { IfSome result (λ made. made.to ≡ source_of (seen frame.now)) }
+    ensures head { IfSome result
+        (λ made. SpellsHeader (report_of (seen frame.now) own.now reason place life sealed) made.head) }
+    ensures data { IfSome result (λ made. take made.body_len (seen frame.now) ≡ header_of (seen frame.now)) }
+    ensures len { IfSome result (λ made. made.body_len ≡ length (header_of (seen frame.now))) }
+    ensures within { IfSome result (λ made. made.body_len ≤ frame.now.len) }
+    ensures spells { IfSome result
+        (λ made. Spells (report_of (seen frame.now) own.now reason place life sealed)
+        (made.head ++ take made.body_len (seen frame.now))) }
+    ensures accepted { IfSome result (λ made. refusal (made.head ++ take made.body_len (seen frame.now)) ≡ None) }
+{
+    let first = frame.first_octets();
+    let octets = first.as_bytes();
+    // Read for its range: all that is seen has the view's length.
+    let _len = frame.len();
+    match report(octets, own, reason, place, life, sealed) {
+        Some(made) => Some(made),
+        None => None,
+    }
 }
 
 /// The reason for discard as the one option (section 7.9.5).

@@ -23,7 +23,7 @@ ghost use Rattle.fair_text.specs.FairReassembly.Tables.{At, ChangesTable, FairSt
 ghost use Rattle.fair_commands.specs.Frames.{GoesOn, Tells};
 
 use command_base::base::NoMemory;
-use fair_text::clnp::{Pdu, SegPart, decode};
+use fair_text::clnp::{Pdu, SegPart, decode_frame};
 use fair_text::fair::{Accept, Came, FairTable, SlotNo, Took, laws};
 use fair_text::nsaps::Address;
 use fair_text::{Told, push_told};
@@ -47,7 +47,7 @@ pub(crate) fn push_frame(
 {
     // Its clause: a frame changes the table of its source as the model says, and no other.
     laws::tables_stand_behind_each_frame();
-    match decode(came.frame.bytes()) {
+    match decode_frame(&came.frame) {
         Ok(pdu) => push_pdu(alloc, tables, came, &pdu, out),
         Err(_) => push_told(came.moment, Told::Unread, out),
     }

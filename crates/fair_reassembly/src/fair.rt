@@ -19,7 +19,7 @@ ghost use Rattle.fair_reassembly.specs.declared.share.Share.{Share as ShareOf};
 use crate::outline::{Outline, of_unit};
 use crate::share::Share;
 use pdu_header::base::NoMemory;
-use pdu_header::decode;
+use pdu_header::decode_frame;
 use pdu_header::nsaps::Address;
 use pdu_header::views::View;
 use reassembly::{Accept, Expired, Pieces, Segment, SlotNo, Table, TableLimits};
@@ -108,7 +108,7 @@ impl FairTable {
         requires ready { At self.old (place_of self.old.sources (value_in frame.frame).source) (IsReady now) }
         ensures { Takes now frame.frame (value_in frame.frame) self.old self.new result }
     {
-        let Ok(pdu) = decode(frame.bytes()) else {
+        let Ok(pdu) = decode_frame(frame.frame()) else {
             unreachable!()
         };
         if pdu.life == 0 {

@@ -21,7 +21,7 @@ pub mod nsaps {
 
 /// CLNP PDUs.
 pub mod clnp {
-    pub use scenario::clnp::{Pdu, SegPart, decode};
+    pub use scenario::clnp::{Pdu, SegPart, decode_frame};
 }
 
 /// Reassembly with a share for each of some sources.

@@ -53,18 +53,7 @@ pub(crate) fn write_transmission<K: Sink>(
     ensures failed { result ≡ Err Stop.WriteFault → Rose (K.faults sink.old) (K.faults sink.new) }
 {
     let mut text = Vec::new(alloc);
-    if transmission_text(
-        alloc,
-        now,
-        name,
-        copy,
-        port,
-        target,
-        frame.bytes(),
-        &mut text,
-    )
-    .is_err()
-    {
+    if transmission_text(alloc, now, name, copy, port, target, frame, &mut text).is_err() {
         return Err(Stop::NoMemory);
     }
     write_line(&text, sink)

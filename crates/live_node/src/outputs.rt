@@ -112,7 +112,8 @@ impl LiveNode {
         if port >= board.count() || !board.is_attached(port) {
             return Ok(());
         }
-        match board.put(port, sending.to, sending.frame.bytes(), &[]) {
+        let (head, tail) = sending.frame.parts();
+        match board.put(port, sending.to, head, tail) {
             Sent::Done => Ok(()),
             Sent::Detached => write_loss(
                 alloc,

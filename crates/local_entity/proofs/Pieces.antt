@@ -31,9 +31,3 @@ given_more forwarded hop body before mid after done cut octets given within same
     ∙ ap (λ (x : Output). (before ++ map (transmission forwarded hop body) done) ++ x ∷ []) (piece_is forwarded hop body cut octets within same)
     ∙ append_assoc before (map (transmission forwarded hop body) done) (transmission forwarded hop body cut ∷ [])
     ∙ ap (λ (xs : List Output). before ++ xs) (sym (map-append (transmission forwarded hop body) done (cut ∷ [])))
-
--- a part of what is seen, by its ends
-pub part_by_ends : (xs ys : List ℕ) (from len : ℕ) → xs ≡ ys → take (from + len - from) (drop from xs) ≡ take len (drop from ys)
-part_by_ends xs ys from len same =
-    let size : from + len - from ≡ len = omega arith in
-    ap (λ (n : ℕ). take n (drop from xs)) size ∙ ap (λ (zs : List ℕ). take len (drop from zs)) same

@@ -156,7 +156,7 @@ impl Endpoint {
             id: draft.id,
             from: draft.from,
             to: draft.to,
-            len: draft.body.bytes().len() as u32,
+            len: draft.body.len() as u32,
         };
         out.push_reserved(Action::Note(sent));
         out.push_reserved(Action::Send(Made {

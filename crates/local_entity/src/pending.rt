@@ -1,6 +1,8 @@
 //! Echo requests that are still to be answered (RFC 1575).
 ghost use Rattle.std.specs.Prelude.{◌≡◌, ◌<◌, [], List, IfOk, Some, length, option_map, slice_get};
 ghost use Rattle.std.specs.List.{find, position_from, remove};
+ghost use Rattle.clnp_machine.specs.ClnpViews.Extent.{seen};
+ghost use Rattle.clnp_machine.specs.Echo.Match.{echoes};
 ghost use Rattle.clnp_machine.specs.PduHeader.declared.kind.Kind.{Kind as KindOf};
 ghost use Rattle.clnp_machine.specs.Unit.{DataUnit};
 ghost use Rattle.clnp_machine.specs.Local.{is_answer, with_made, without_answered};
@@ -9,7 +11,7 @@ ghost use Rattle.local_entity.specs.Pending.{answers, request_of};
 
 use clnp_machine::base::NoMemory;
 use clnp_machine::clnp::Kind;
-use clnp_machine::echoing::matches;
+use clnp_machine::echoing::matches_parts;
 use clnp_machine::nsaps::Address;
 use clnp_machine::views::View;
 use std::alloc::Global;
@@ -77,7 +79,15 @@ impl Request {
     fn is_answered(&self, from: &Address, to: &Address, body: &[u8]) -> bool
         ensures { result ≡ answers from.now to.now body.now self.now }
     {
-        self.to == *from && self.from == *to && matches(self.body.bytes(), body)
+        self.to == *from && self.from == *to && self.has_answer(body)
+    }
+
+    /// Whether the data of a reply answer the request.
+    fn has_answer(&self, body: &[u8]) -> bool
+        ensures { result ≡ echoes (seen self.now.body) body.now }
+    {
+        let (front, behind) = self.body.parts(0, self.body.len());
+        matches_parts(front, behind, body)
     }
 }
 

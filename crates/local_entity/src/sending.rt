@@ -1,7 +1,8 @@
 //! PDUs that go out in pieces, cut for the MTU of a port (ISO/IEC 8473, section 6.7): a unit that was made here, or a PDU that
 //! is forwarded.
-ghost use Rattle.std.specs.Prelude.{◌≡◌, ◌≤◌, ◌+◌, ◌++◌, [], ◌∷◌, IfOk, OnOk, OnErr, Some, length, map, take, None};
+ghost use Rattle.std.specs.Prelude.{◌≡◌, ◌≤◌, ◌+◌, ◌++◌, [], ◌∷◌, IfOk, OnOk, OnErr, Some, drop, length, map, take, None};
 ghost use Rattle.std.specs.List.{AllByRecursion};
+ghost use Rattle.clnp_machine.specs.ClnpViews.Extent.{seen};
 ghost use Rattle.clnp_machine.specs.Given.{Appends};
 ghost use Rattle.clnp_machine.specs.Local.{Sends};
 ghost use Rattle.clnp_machine.specs.Step.{first_sent, sent_on};
@@ -70,7 +71,7 @@ fn send_on(
     ensures none { OnErr result (out.new.items ≡ out.old.items) }
     ensures front { take (length out.old.items) out.new.items ≡ out.old.items }
 {
-    let octets = made.body.bytes().len();
+    let octets = made.body.len();
     match Cuts::new(made.head, octets, port.mtu) {
         Ok(mut cuts) => give_pieces(alloc, &mut cuts, hop, &made.body, false, out),
         Err(NotPermitted { .. }) => note(Reason::SegmentationNotPermitted, out),
@@ -99,7 +100,7 @@ pub fn give_pieces(
     ensures front { take (length out.old.items) out.new.items ≡ out.old.items }
 {
     if let Some((head, len)) = cuts.single() {
-        return push_piece(alloc, head, &body.bytes()[..len], &hop, forwarded, out);
+        return push_piece(alloc, head, body, 0, len, &hop, forwarded, out);
     }
     let before = out.len();
     if let Err(refused) = push_pieces(alloc, cuts, &hop, body, forwarded, out) {
@@ -123,26 +124,30 @@ fn push_pieces(
     ensures front { OnErr result (take (length out.old.items) out.new.items ≡ out.old.items) }
 {
     for cut in cuts {
-        let data = &body.bytes()[cut.from..cut.from + cut.len];
-        push_piece(alloc, &cut.head, data, hop, forwarded, out)?;
+        push_piece(
+            alloc, &cut.head, body, cut.from, cut.len, hop, forwarded, out,
+        )?;
     }
     Ok(())
 }
 
-/// Appends the piece of a PDU that has this header and these octets of data.
+/// Appends the piece of a PDU that has this header and `len` octets of these data, from place `from` of them.
 fn push_piece(
     alloc: Global,
     head: &Header,
-    octets: &[u8],
+    body: &View,
+    from: usize,
+    len: usize,
     hop: &Hop,
     forwarded: bool,
     out: &mut Vec<Output>,
 ) -> Result<(), NoMemory>
+    requires { from + len ≤ body.now.len }
     ensures given { OnOk result (out.new.items ≡ out.old.items
-        ++ Transmit (record { port = hop.now.port; to = hop.now.target; frame = head.now ++ octets.now; forwarded = forwarded }) ∷ []) }
+        ++ Transmit (record { port = hop.now.port; to = hop.now.target; frame = head.now ++ take len (drop from (seen body.now)); forwarded = forwarded }) ∷ []) }
     ensures none { OnErr result (out.new.items ≡ out.old.items) }
 {
-    let frame = joined(alloc, head.as_bytes(), octets)?;
+    let frame = Frame::with_data(alloc, head.as_bytes(), body, from, len)?;
     out.reserve(1)?;
     out.push_reserved(Output::Transmit(Sending {
         port: hop.port,
@@ -151,16 +156,6 @@ fn push_piece(
         forwarded,
     }));
     Ok(())
-}
-
-/// The frame of a header and the data that follow it, in room of just its length.
-fn joined(alloc: Global, head: &[u8], body: &[u8]) -> Result<Frame, NoMemory>
-    ensures { IfOk result (λ frame. frame ≡ head.now ++ body.now) }
-{
-    let mut octets = Vec::with_capacity(alloc, head.len().saturating_add(body.len()))?;
-    octets.extend_from_slice(head)?;
-    octets.extend_from_slice(body)?;
-    Frame::from_vec(octets)
 }
 
 /// Notes that a unit is discarded for a reason, for which no place in it is told.

@@ -3,7 +3,7 @@ ghost use Rattle.clnp_machine.specs.ClnpOptions.Grammar.{FitsKind};
 ghost use Rattle.clnp_machine.specs.ClnpOptions.Parameter.{parameters};
 
 use crate::seeing::see;
-use clnp_machine::clnp::{Kind, decode};
+use clnp_machine::clnp::{Kind, decode_frame};
 use clnp_machine::nsaps::Address;
 use clnp_machine::options::{OptionList, laws};
 use clnp_machine::system_plan::{Ask, Limits, SystemConfig, journal_text};
@@ -144,7 +144,7 @@ fn receive(
     let frame = Frame::copy(alloc, PDU).expect(rt, "memory");
     assert!(rt; limits.hold >= 1);
     let mut local = Local::new(alloc, system, limits, 0).expect(rt, "memory");
-    let Ok(pdu) = decode(frame.bytes()) else {
+    let Ok(pdu) = decode_frame(&frame) else {
         panic!(rt; "no PDU");
     };
     assert!(rt; pdu.life >= 1);

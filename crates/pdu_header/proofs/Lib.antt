@@ -19,3 +19,5 @@ pub mod Least
 pub mod Taken
 pub mod Told
 pub mod EditedPdus
+pub mod FirstOctets
+mod ShortHeaders

@@ -1,17 +1,18 @@
 //! Frames read as PDUs, by the rules G1 to G20.
 ghost use Rattle.clnp_options.specs.Reasons.{reason_code};
+ghost use Rattle.clnp_views.specs.Parted.{IsShortHeader};
 ghost use Rattle.clnp_options.specs.Rules.{Gives, refusal as options_refusal};
 ghost use Rattle.pdu_header.specs.Grammar as grammar;
 ghost use Rattle.pdu_header.specs.Grammar.{BeginsWith};
 ghost use Rattle.pdu_header.specs.Reading as pdu_reading;
 ghost use Rattle.pdu_header.specs.Reading.{body_of, rest_of, segmentation_at, value_of};
 ghost use Rattle.pdu_header.specs.Rules as pdu_rules;
-ghost use Rattle.pdu_header.specs.Rules.{addresses_refusal, data_size, extent_refusal, fixed_part_refusal, header_size, is_unfit_range, is_bad_address, lengths_refusal, octet, options_part, options_place, part_place, refusal, source_place, type_of};
+ghost use Rattle.pdu_header.specs.Rules.{addresses_refusal, data_size, extent_refusal, fixed_part_refusal, header_refusal, header_size, is_unfit_range, is_bad_address, lengths_refusal, octet, options_part, options_place, part_place, refusal, source_place, type_of};
 ghost use Rattle.pdu_header.specs.Headers.{SpellsHeader};
 ghost use Rattle.pdu_header.specs.Spelling.{header, header_length};
 ghost use Rattle.pdu_header.specs.Value.{PduValue};
 ghost use Rattle.pdu_header.specs.View.{part_value, pdu_value, why_refused};
-ghost use Rattle.std.specs.Prelude.{IfSome, MatchResult, None, Some, ◌^◌, ◌≡◌, ◌+◌, ◌-◌, ◌==◌, ◌<◌, ◌≤◌, ℕ, true, false, List, IfOk, MatchOption, OnErr, OnOk, drop, length, option_map};
+ghost use Rattle.std.specs.Prelude.{IfSome, MatchResult, None, Some, ◌^◌, ◌≡◌, ◌+◌, ◌-◌, ◌==◌, ◌<◌, ◌≤◌, ℕ, true, false, List, IfOk, MatchOption, OnErr, OnOk, ◌++◌, drop, length, option_map, take};
 
 use crate::kind::Kind;
 use crate::layout::{
@@ -19,9 +20,10 @@ use crate::layout::{
     TYPES, VERSION,
 };
 use crate::pdu::{Broken, Pdu, Refusal, SegPart};
-use crate::report::reportable;
+use crate::report::{reportable, reportable_header};
 use byteorder::{BigEndian, ByteOrder};
 use clnp_options::{OptionRefusal, Reason, check};
+use clnp_views::Frame;
 use nsap::Address;
 
 /// The header length that is reserved (section 7.2.3).
@@ -60,6 +62,57 @@ pub fn decode(frame: &[u8]) -> Result<Pdu<'_>, Refusal>
     }
 }
 
+/// The PDU at the front of a shared frame, as `decode` finds it in its octets.
+///
+/// # Errors
+///
+/// Those of [`decode`].
+pub fn decode_frame(frame: &Frame) -> Result<Pdu<'_>, Refusal>
+    ensures judged { MatchResult result (λ _. why_refused frame.now ≡ None)
+        (λ refused. why_refused frame.now ≡ Some refused) }
+    ensures accepted { OnOk result ((octet frame.now 1 ≡ 0x81) × (refusal frame.now ≡ None)) }
+    ensures found { IfOk result (λ pdu. BeginsWith frame.now (pdu_value pdu) pdu.rest.now) }
+    ensures none { OnErr result ((value : PduValue) (rest : List ℕ) → BeginsWith frame.now value rest → ⊥) }
+    ensures header { IfOk result (λ pdu. pdu.head.now ≡ header (pdu_value pdu)) }
+    ensures spells { IfOk result (λ pdu. SpellsHeader (pdu_value pdu) pdu.head.now) }
+    ensures size { IfOk result (λ pdu. length pdu.head.now ≡ header_length (pdu_value pdu)) }
+    ensures head { IfOk result (λ pdu. pdu.head.now ≡ pdu_rules.header_of frame.now) }
+    ensures sum { IfOk result (λ pdu. pdu.sum ≡ pdu_rules.pair_at pdu.head.now 8) }
+    ensures options { IfOk result (λ pdu. pdu.options.now ≡ options_part pdu.head.now) }
+{
+    let (front, behind) = frame.parts();
+    if front.is_empty() {
+        return decode(behind);
+    }
+    decode_behind(front, behind)
+}
+
+/// The PDU with a short header and what is behind it, as `decode` finds it where both stand one behind the other.
+fn decode_behind<'a>(head: &'a [u8], behind: &'a [u8]) -> Result<Pdu<'a>, Refusal>
+    requires { IsShortHeader head.now }
+    ensures judged { MatchResult result (λ _. why_refused (head.now ++ behind.now) ≡ None)
+        (λ refused. why_refused (head.now ++ behind.now) ≡ Some refused) }
+    ensures accepted { OnOk result ((octet (head.now ++ behind.now) 1 ≡ 0x81) × (refusal (head.now ++ behind.now) ≡ None)) }
+    ensures found { IfOk result (λ pdu. BeginsWith (head.now ++ behind.now) (pdu_value pdu) pdu.rest.now) }
+    ensures none { OnErr result ((value : PduValue) (rest : List ℕ) → BeginsWith (head.now ++ behind.now) value rest → ⊥) }
+    ensures header { IfOk result (λ pdu. pdu.head.now ≡ header (pdu_value pdu)) }
+    ensures spells { IfOk result (λ pdu. SpellsHeader (pdu_value pdu) pdu.head.now) }
+    ensures size { IfOk result (λ pdu. length pdu.head.now ≡ header_length (pdu_value pdu)) }
+    ensures head { IfOk result (λ pdu. pdu.head.now ≡ pdu_rules.header_of (head.now ++ behind.now)) }
+    ensures sum { IfOk result (λ pdu. pdu.sum ≡ pdu_rules.pair_at pdu.head.now 8) }
+    ensures options { IfOk result (λ pdu. pdu.options.now ≡ options_part pdu.head.now) }
+{
+    match read_behind(head, behind) {
+        Ok(pdu) => Ok(pdu),
+        Err(refusal) => Err(Refusal::Broken(Broken {
+            rule: refusal.rule,
+            reason: refusal.reason,
+            place: refusal.place,
+            reportable: reportable_header(head).is_some(),
+        })),
+    }
+}
+
 /// Whether the frame begins with the identifier of this protocol.
 pub(crate) fn is_clnp(frame: &[u8]) -> bool
     ensures { result ≡ (octet frame.now 1 == 0x81) }
@@ -68,7 +121,7 @@ pub(crate) fn is_clnp(frame: &[u8]) -> bool
 }
 
 /// The PDU at the front of a frame that begins with 0x81. Refuses by G1 to G20.
-#[tactic(auto, unfolding(crate::specs::Rules::refusal, crate::specs::Rules::header_refusal))]
+#[tactic(auto, unfolding(crate::specs::Rules::refusal))]
 fn read(frame: &[u8]) -> Result<Pdu<'_>, OptionRefusal>
     ensures judged { Gives result (refusal frame.now) }
     ensures value { IfOk result (λ pdu. pdu_value pdu ≡ value_of (pdu_rules.header_of frame.now) (body_of frame.now)) }
@@ -78,12 +131,27 @@ fn read(frame: &[u8]) -> Result<Pdu<'_>, OptionRefusal>
     ensures options { IfOk result (λ pdu. pdu.options.now ≡ options_part pdu.head.now) }
 {
     let (head, behind) = header_of(frame)?;
+    read_behind(head, behind)
+}
+
+/// The PDU with a header that has the length that it tells, and what is behind it. Refuses by G4 to G20.
+#[tactic(auto, unfolding(crate::specs::Rules::header_refusal))]
+fn read_behind<'a>(head: &'a [u8], behind: &'a [u8]) -> Result<Pdu<'a>, OptionRefusal>
+    requires at_least { 9 ≤ length head.now }
+    requires at_most { length head.now ≤ 254 }
+    ensures judged { Gives result (header_refusal head.now (length head.now + length behind.now)) }
+    ensures value { IfOk result (λ pdu. pdu_value pdu ≡ value_of head.now (take (data_size head.now) behind.now)) }
+    ensures rest { IfOk result (λ pdu. pdu.rest.now ≡ drop (data_size head.now) behind.now) }
+    ensures head { IfOk result (λ pdu. pdu.head.now ≡ head.now) }
+    ensures sum { IfOk result (λ pdu. pdu.sum ≡ pdu_rules.pair_at pdu.head.now 8) }
+    ensures options { IfOk result (λ pdu. pdu.options.now ≡ options_part pdu.head.now) }
+{
     let kind = check_fixed_part(head)?;
     let Addresses { to, from, end } = match read_addresses(head) {
         Ok(addresses) => addresses,
         Err(refusal) => return Err(refusal),
     };
-    let lengths = read_lengths(head, end, frame.len())?;
+    let lengths = read_lengths(head, end, head.len() + behind.len())?;
     let options = read_options(head, options_place(head, end), kind)?;
     let (body, rest) = behind.split_at(lengths.data_length);
     Ok(Pdu {
@@ -120,6 +188,7 @@ pub(crate) fn header_of(frame: &[u8]) -> Result<(&[u8], &[u8]), OptionRefusal>
     ensures header { IfOk result (λ r. r.0.now ≡ pdu_rules.header_of frame.now) }
     ensures behind { IfOk result (λ r. r.1.now ≡ drop (header_size frame.now) frame.now) }
     ensures size { IfOk result (λ r. length r.0.now ≡ header_size frame.now) }
+    ensures whole { IfOk result (λ r. length r.0.now + length r.1.now ≡ length frame.now) }
     ensures at_least { IfOk result (λ r. 9 ≤ length r.0.now) }
     ensures at_most { IfOk result (λ r. length r.0.now ≤ 254) }
 {

@@ -14,7 +14,7 @@ mod pdu;
 mod report;
 mod write;
 
-pub use decoder::decode;
+pub use decoder::{decode, decode_frame};
 pub use encoding::{EncodeRefusal, encode};
 pub use header::{Header, HeaderRefusal};
 pub use kind::Kind;

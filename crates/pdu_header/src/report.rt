@@ -2,7 +2,7 @@
 ghost use Rattle.nsap.specs.Address.{IsAddress};
 ghost use Rattle.pdu_header.specs.Reading.{address_at};
 ghost use Rattle.pdu_header.specs.Rules as pdu_rules;
-ghost use Rattle.pdu_header.specs.Rules.{header_size, is_reportable, source_place, type_of};
+ghost use Rattle.pdu_header.specs.Rules.{header_size, is_reportable, is_reportable_header, source_place, type_of};
 ghost use Rattle.std.specs.Prelude.{◌≡◌, ◌==◌, ◌≤◌, IfSome, is_some, length};
 
 use crate::decoder::{header_of, is_clnp, kind_of, read_addresses, wants_report};
@@ -12,7 +12,6 @@ use crate::pdu::ReportTo;
 /// Where an error report of the frame's discard goes (section 6.10): the frame begins with 0x81 and
 /// with a whole header in which both addresses lie, which wants a report and is none itself. Version
 /// and checksum don't matter.
-#[tactic(auto, unfolding(crate::specs::Rules::addresses_refusal))]
 pub fn reportable(frame: &[u8]) -> Option<ReportTo>
     ensures some { is_some result ≡ is_reportable frame.now }
     ensures from { IfSome result (λ report. report.from
@@ -27,6 +26,19 @@ pub fn reportable(frame: &[u8]) -> Option<ReportTo>
     let Ok((head, _)) = header_of(frame) else {
         return None;
     };
+    reportable_header(head)
+}
+
+/// Where an error report of the discard of a frame goes that begins with 0x81 and this whole header.
+#[tactic(auto, unfolding(crate::specs::Rules::addresses_refusal))]
+pub(crate) fn reportable_header(head: &[u8]) -> Option<ReportTo>
+    requires at_least { 9 ≤ length head.now }
+    requires at_most { length head.now ≤ 254 }
+    ensures some { is_some result ≡ is_reportable_header head.now }
+    ensures from { IfSome result (λ report. report.from ≡ address_at head.now (source_place head.now)) }
+    ensures address { IfSome result (λ report. IsAddress report.from) }
+    ensures head_len { IfSome result (λ report. report.head_len ≡ length head.now) }
+{
     if !wants_report(head) || is_error_report(head) {
         return None;
     }

@@ -12,6 +12,7 @@ mod pieces;
 mod runs;
 mod segment;
 mod segments;
+mod spans;
 mod table;
 
 pub use pieces::Pieces;

@@ -1,17 +1,8 @@
 //! The data of a whole unit, piece by piece.
-ghost use Rattle.std.specs.Prelude.{◌≡◌, ◌++◌, ◌<◌, ℕ, [], length, map, true, MatchOption};
+ghost use Rattle.std.specs.Prelude.{◌≡◌, ◌++◌, ◌<◌, [], length, MatchOption};
 ghost use Rattle.std.specs.Iterator.{item_count};
-ghost use Rattle.std.specs.List.{AllByRecursion, range_with_len};
-ghost use Rattle.reassembly.specs.Arrival.{are_covered, arrival_of, earliest, octet_in};
-ghost use Rattle.reassembly.specs.Buffer.{octet_by};
-ghost use Rattle.reassembly.specs.Entries.{present};
-ghost use Rattle.reassembly.specs.Index.{giver};
-ghost use Rattle.reassembly.specs.Offered.{MayCome};
-ghost use Rattle.reassembly.specs.Runs.{AreJoined, filler};
-ghost use Rattle.reassembly.specs.State.{segments_of};
 
-use crate::runs::Group;
-use crate::segment::{Key, Segment};
+use crate::spans::Spans;
 use std::marker::Model;
 
 /// What is left of the data of a whole unit, in pieces of the kept segments' octets.
@@ -19,56 +10,25 @@ use std::marker::Model;
 /// A contract sees it as the list of the octets that are left.
 #[derive(Drop)]
 pub struct Pieces<'a> {
-    entries: &'a [Option<Segment>],
-    runs: Group<'a>,
-    key: Key,
-    place: usize,
-    end: usize,
+    spans: Spans<'a>,
+    /// The second part of the span that was taken last, which comes next.
+    behind: &'a [u8],
 }
 
 impl<'a> Model for Pieces<'a> {
-    ghost use Rattle.std.specs.Prelude.{◌≡◌, ◌-◌, ◌<◌, ◌≤◌, ℕ, List, map, true};
-    ghost use Rattle.std.specs.List.{AllByRecursion, range_with_len};
-    ghost use Rattle.reassembly.specs.Arrival.{are_covered, arrival_of, earliest, octet_in};
-    ghost use Rattle.reassembly.specs.Buffer.{octet_by};
-    ghost use Rattle.reassembly.specs.Entries.{present};
-    ghost use Rattle.reassembly.specs.Index.{giver};
-    ghost use Rattle.reassembly.specs.Offered.{MayCome};
-    ghost use Rattle.reassembly.specs.Runs.{AreJoined, filler};
-    ghost use Rattle.reassembly.specs.State.{segments_of};
+    ghost use Rattle.std.specs.Prelude.{◌++◌, ℕ, List};
 
     ghost Value = { List ℕ };
 
-    ghost view = { λ p. map (λ place. octet_by octet_in place (earliest (map arrival_of (segments_of p.key (present p.entries.now))) place))
-        (range_with_len p.place (p.end - p.place)) };
-
-    ghost invariant = { λ p. (p.place ≤ p.end) × AllByRecursion MayCome (present p.entries.now)
-        × (are_covered (map arrival_of (segments_of p.key (present p.entries.now))) p.place (p.end - p.place) ≡ true)
-        × AreJoined p.place p.end p.runs
-        × ((at : ℕ) → p.place ≤ at → at < p.end → filler at p.runs ≡ giver p.key at p.entries.now) };
+    ghost view = { λ p. p.behind.now ++ p.spans };
 }
 
 impl<'a> Pieces<'a> {
-    /// The data of the unit whose segments are those of the key, which cover `end` places, by its runs.
-    pub(crate) fn new(
-        entries: &'a [Option<Segment>],
-        runs: Group<'a>,
-        key: Key,
-        end: usize,
-    ) -> Pieces<'a>
-        requires came { AllByRecursion MayCome (present entries.now) }
-        requires covered { are_covered (map arrival_of (segments_of key (present entries.now))) 0 end ≡ true }
-        requires joined { AreJoined 0 end runs }
-        requires filled { (at : ℕ) → at < end → filler at runs ≡ giver key at entries.now }
-        ensures { result ≡ map (λ place. octet_by octet_in place (earliest (map arrival_of (segments_of key (present entries.now))) place)) (range_with_len 0 end) }
+    /// The data of these spans.
+    pub(crate) fn of(spans: Spans<'a>) -> Pieces<'a>
+        ensures { result ≡ spans.entry }
     {
-        Pieces {
-            entries,
-            runs,
-            key,
-            place: 0,
-            end,
-        }
+        Pieces { spans, behind: &[] }
     }
 }
 
@@ -82,18 +42,16 @@ impl<'a> Iterator for Pieces<'a> {
     ghost remaining = { item_count (λ left. left) };
 
     fn next(&mut self) -> Option<&'a [u8]> {
-        let Some(run) = self.runs.next() else {
-            return None;
-        };
-        let Some(by) = run.by else {
-            return None;
-        };
-        let Some(segment) = &self.entries[usize::from(by)] else {
-            return None;
-        };
-        let len = usize::from(run.to - run.from);
-        let piece = segment.octets(usize::from(run.from), len);
-        self.place = usize::from(run.to);
-        Some(piece)
+        if !self.behind.is_empty() {
+            let behind = self.behind;
+            self.behind = &[];
+            return Some(behind);
+        }
+        let (front, behind) = self.spans.next()?;
+        if front.is_empty() {
+            return Some(behind);
+        }
+        self.behind = behind;
+        Some(front)
     }
 }

@@ -1,5 +1,5 @@
 //! Segments of data units.
-ghost use Rattle.std.specs.Prelude.{◌≡◌, ◌+◌, ◌≤◌, map};
+ghost use Rattle.std.specs.Prelude.{◌≡◌, ◌+◌, ◌≤◌, ◌++◌, map};
 ghost use Rattle.std.specs.List.{range_with_len};
 ghost use Rattle.reassembly.specs.Arrival.{arrival_of, data_len, octet_in, same_key};
 ghost use Rattle.reassembly.specs.Offered.{MayCome};
@@ -81,16 +81,17 @@ impl Segment {
         self.offset + self.data_len()
     }
 
-    /// Its octets at `len` places of the unit's data from `place`.
-    pub(crate) fn octets(&self, place: usize, len: usize) -> &[u8]
+    /// Its octets at `len` places of the unit's data from `place`, in two parts.
+    pub(crate) fn octets(&self, place: usize, len: usize) -> (&[u8], &[u8])
         requires came { MayCome self.now }
         requires from { self.now.offset ≤ place }
         requires to { place + len ≤ self.now.offset + (arrival_of self.now).len }
-        ensures { result.now ≡ map (octet_in (arrival_of self.now)) (range_with_len place len) }
+        ensures { result.0.now ++ result.1.now ≡ map (octet_in (arrival_of self.now)) (range_with_len place len) }
     {
-        // Read for its range, as in `end`.
+        // Read for their ranges: as in `end`, and what is seen lies in the frame.
         let _total = self.shape.total;
+        let _size = self.pdu.frame_len();
         let start = usize::from(self.shape.head_len) + (place - usize::from(self.offset));
-        &self.pdu.bytes()[start..start + len]
+        self.pdu.parts(start, len)
     }
 }

@@ -15,6 +15,7 @@ use crate::pieces::Pieces;
 use crate::runs::{Runs, has_gap, has_hole};
 use crate::segment::{Key, Segment, Shape};
 use crate::segments::Segments;
+use crate::spans::Spans;
 use clnp_views::View;
 use nsap::base::NoMemory;
 use std::alloc::Global;
@@ -302,12 +303,12 @@ impl Table {
         let place = self.place_at(slot);
         let opening = self.openings.at(place);
         let end = usize::from(opening.shape.data_len());
-        Pieces::new(
+        Pieces::of(Spans::new(
             self.segments.entries(),
             self.runs.group(place),
             opening.key,
             end,
-        )
+        ))
     }
 
     /// How many octets are held: of the whole frames in which kept segments came.

@@ -43,7 +43,7 @@ pub mod system_plan {
 
 /// CLNP PDUs.
 pub mod clnp {
-    pub use clnp_plan::clnp::{Kind, Pdu, SegPart, decode};
+    pub use clnp_plan::clnp::{Kind, Pdu, SegPart, decode_frame};
 }
 
 /// NSAP addresses, their prefixes, SNPAs, and targets.

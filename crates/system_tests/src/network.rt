@@ -104,16 +104,15 @@ pub fn prefix_of(rt: &impl Abort, digits: &[u8]) -> Prefix {
     Prefix::from_text(digits).expect(rt, "a prefix")
 }
 
-/// Sees that a frame goes out: by port 0, of these octets.
+/// Sees that a frame goes out: by port 0, of these octets, the header in the frame's value itself.
 pub fn see_frame(rt: &impl Abort, output: Option<&Output>, to: Target, head: &[u8], body: &[u8]) {
     let Some(Output::Transmit(sending)) = output else {
         panic!(rt; "no frame");
     };
     assert!(rt; sending.port == 0);
     assert!(rt; sending.to == to);
-    let Some(behind) = sending.frame.bytes().strip_prefix(head) else {
-        panic!(rt; "another header");
-    };
+    let (front, behind) = sending.frame.parts();
+    assert!(rt; front == head);
     assert!(rt; behind == body);
 }
 

@@ -131,7 +131,7 @@ impl Network {
             copy: self.copies.len() as u64 + 1,
             port,
             target,
-            frame: frame.bytes(),
+            frame,
         };
         lines.take(alloc, &line)
     }
@@ -240,6 +240,6 @@ fn weight_with(weight: u64, frame: &Frame) -> Option<u64>
     ensures weighed { IfSome result (λ more. more ≡ weight + (length frame.now + 64)) }
     ensures none { IfNone result (2 ^ 64 ≤ weight + (length frame.now + 64)) }
 {
-    let octets = frame.bytes().len() as u64;
+    let octets = frame.len() as u64;
     weight.checked_add(octets)?.checked_add(COPY_WEIGHT)
 }

@@ -12,7 +12,7 @@ ghost use Rattle.local_entity.specs.Reporting.{IsReport};
 use super::Endpoint;
 use crate::action::{Action, Draft};
 use clnp_machine::clnp::Kind;
-use clnp_machine::reports::report;
+use clnp_machine::reports::report_in;
 use clnp_machine::system_plan::Note;
 use clnp_machine::views::View;
 
@@ -42,14 +42,7 @@ impl Endpoint {
     {
         let own = self.config.addresses().first()?;
         let settings = self.config.settings();
-        let made = report(
-            frame.bytes(),
-            own,
-            reason,
-            place,
-            settings.life,
-            settings.sealed,
-        )?;
+        let made = report_in(&frame, own, reason, place, settings.life, settings.sealed)?;
         Some(Draft {
             kind: Kind::Er,
             id: None,

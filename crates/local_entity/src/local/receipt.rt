@@ -15,7 +15,7 @@ use super::Local;
 use crate::action::Action;
 use crate::purpose::purpose_in;
 use clnp_machine::base::{NoMemory, Octets};
-use clnp_machine::clnp::{Pdu, SegPart, decode, laws};
+use clnp_machine::clnp::{Pdu, SegPart, decode_frame, laws};
 use clnp_machine::laws as machine_laws;
 use clnp_machine::reassembling::{Key, Segment, Shape};
 use clnp_machine::views::Frame;
@@ -53,7 +53,7 @@ impl Local {
         ensures ready { IsReady now self.old.table → IsReady now self.new.table }
     {
         laws::one_value();
-        let Ok(pdu) = decode(frame.bytes()) else {
+        let Ok(pdu) = decode_frame(frame) else {
             unreachable!()
         };
         self.receive_pdu(alloc, now, &pdu, frame, out)

@@ -31,7 +31,7 @@ ghost use Rattle.system_entity.specs.Stands.{PartsStand, PartsStandSince};
 use super::{Arrival, SystemEntity};
 use crate::passing::Passing;
 use clnp_machine::base::NoMemory;
-use clnp_machine::clnp::{Kind, Pdu, Refusal, decode};
+use clnp_machine::clnp::{Kind, Pdu, Refusal, decode_frame};
 use clnp_machine::esis::EsisRefusal;
 use clnp_machine::hearing::Neighbour;
 use clnp_machine::laws;
@@ -109,7 +109,7 @@ impl SystemEntity {
     {
         laws::a_frame_carries_one_packet();
         laws::no_frame_is_of_both_protocols();
-        match decode(frame.bytes()) {
+        match decode_frame(frame) {
             Ok(pdu) => self.pdu_comes(alloc, &pdu, neighbour, group, frame, out),
             Err(Refusal::Broken(broken)) => {
                 self.drop_frame(alloc, frame, broken.reason, broken.place, out)?;
@@ -250,7 +250,7 @@ impl SystemEntity {
         laws::a_frame_carries_one_esis_value();
         laws::no_frame_is_of_both_protocols();
         laws::hellos_leave_the_rest();
-        match clnp_machine::esis::decode(frame.bytes()) {
+        match clnp_machine::esis::decode(octets_of(frame)) {
             Ok(pdu) => {
                 let config = self.local.config();
                 self.esis
@@ -482,7 +482,17 @@ pub(super) fn tell_way(
 pub(super) fn begins_as_clnp(frame: &Frame) -> bool
     ensures { result ≡ (octet frame.now 1 == 0x81) }
 {
-    matches!(frame.bytes(), [0x81, ..])
+    let (front, behind) = frame.parts();
+    !front.is_empty() || matches!(behind, [0x81, ..])
+}
+
+/// The octets of a frame that doesn't begin as a CLNP PDU: all are in one place.
+fn octets_of(frame: &Frame) -> &[u8]
+    requires { octet frame.now 1 ≢ 0x81 }
+    ensures { result.now ≡ frame.now }
+{
+    let (_, octets) = frame.parts();
+    octets
 }
 
 /// What is noted of a frame that no protocol accepts: the rule of ES-IS PDUs that it breaks, or that it is alien.
@@ -499,14 +509,16 @@ fn unheard(refusal: EsisRefusal) -> Note
 pub(super) fn has_content(frame: &Frame)
     ensures { (content : Content) × IsCarried content × (frame_of content ≡ frame.now) }
 {
-    octets_have_content(frame.bytes());
+    let (front, behind) = frame.parts();
+    octets_have_content(front, behind);
 }
 
 /// All octets have a content.
-fn octets_have_content(octets: &[u8])
-    ensures { (content : Content) × IsCarried content × (frame_of content ≡ octets.now) }
+fn octets_have_content(front: &[u8], behind: &[u8])
+    ensures { (content : Content) × IsCarried content × (frame_of content ≡ front.now ++ behind.now) }
 {
     laws::octets_have_a_content();
     // Each item of a slice that is used is an octet.
-    let _len = octets.len();
+    let _front = front.len();
+    let _behind = behind.len();
 }

@@ -1,6 +1,5 @@
-use Rattle.std.proofs.Common.{◌≡◌, List, ℕ, None, Some, ap, subst}
+use Rattle.std.proofs.Common.{ap}
 use Rattle.fair_text.specs.PduHeader.Value.{PduValue}
-use Rattle.fair_text.specs.PduHeader.View.{why_refused}
 use Rattle.fair_text.specs.FairReassembly.Tables.{place_of}
 use Rattle.fair_commands.proofs.Arriving.{goes_on_pdu, goes_on_unread}
 use Rattle.fair_commands.proofs.Frames.{on_ok}
@@ -9,7 +8,7 @@ use Rattle.fair_commands.proofs.frame.push_frame.Goals as goal
 pub returns-in-Ok : goal.returns-in-Ok
 returns-in-Ok c =
     let old = c.args.tables.now in
-    let accepted = subst (λ (frame : List ℕ). why_refused frame ≡ None) c.bytes.ensures c.in-Ok.ensures.judged in
+    let accepted = c.in-Ok.ensures.judged in
     on_ok c.push_pdu.result _ _ (λ tells s before behind.
     goes_on_pdu s before c.args.came.now c.args.out.now.items c.push_pdu.new.out.items c.tables_stand_behind_each_frame.ensures.comes
     (place_of old.sources c.in-Ok.pdu.from) old c.push_pdu.new.tables
@@ -18,7 +17,7 @@ returns-in-Ok c =
 
 pub returns-in-Err : goal.returns-in-Err
 returns-in-Err c =
-    let refused = subst (λ (frame : List ℕ). why_refused frame ≡ Some c.in-Err.field-0) c.bytes.ensures c.in-Err.ensures.judged in
+    let refused = c.in-Err.ensures.judged in
     on_ok c.push_told.result _ _ (λ line s before behind.
     goes_on_unread s before c.args.came.now c.args.out.now.items c.push_told.new.out.items c.tables_stand_behind_each_frame.ensures.unread
     c.args.tables.now c.in-Err.field-0 refused line behind)

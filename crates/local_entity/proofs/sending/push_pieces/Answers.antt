@@ -1,10 +1,11 @@
 -- One piece more is given out.
-use Rattle.std.proofs.Common.{◌∙◌, ◌++◌, [], ◌∷◌, List, ap, append_assoc, subst, sym}
+use Rattle.std.proofs.Common.{◌≡◌, ◌∙◌, ◌++◌, [], ◌∷◌, List, ap, append_assoc, length, refl, rules, subst, sym, take}
+use Rattle.std.proofs.lemmas.List.{take_at}
 use Rattle.std.specs.List.{AllByRecursion}
 use Rattle.clnp_machine.specs.ClnpViews.Extent.{seen}
 use Rattle.clnp_machine.specs.Segmenter.Left.{IsCutOf}
 use Rattle.clnp_machine.specs.Segmenter.declared.cuts.Cut.{Cut}
-use Rattle.local_entity.proofs.Pieces.{given_more, part_by_ends}
+use Rattle.local_entity.proofs.Pieces.{given_more}
 use Rattle.local_entity.proofs.sending.push_pieces.Goals as goal
 
 pub loop-cut-preserved : goal.loop-cut-preserved
@@ -15,7 +16,15 @@ loop-cut-preserved c =
       left = each.1;
       given = given_more c.args.forwarded c.args.hop.now c.args.body.now c.args.out.now.items c.loop-cut.out.items c.push_piece.new.out.items
           c.loop-cut.yielded c.in-Some.cut _ c.loop-cut.invariant.given each.0.within
-          (part_by_ends c.bytes.result.now (seen c.args.body.now) c.in-Some.cut.from c.in-Some.cut.len c.bytes.ensures.octets) c.in_ok-push_piece.ensures.given;
+          refl c.in_ok-push_piece.ensures.given;
       all = c.loop-cut.invariant.all ∙ ap (λ (cuts : List Cut). c.loop-cut.yielded ++ cuts) c.in-Some.ensures.steps
           ∙ sym (append_assoc c.loop-cut.yielded (c.in-Some.cut ∷ []) c.next.new.self.now);
     }
+
+pub returns-in_err-push_piece-clause-front : goal.returns-in_err-push_piece-clause-front
+returns-in_err-push_piece-clause-front c =
+    let before = c.args.out.now.items in
+    let kept : take (length before) c.push_piece.new.out.items ≡ before =
+    ap (λ outputs. take (length before) outputs) (c.in_err-push_piece.ensures.none ∙ c.loop-cut.invariant.given)
+    ∙ take_at before _ (length before) refl in
+    search rules

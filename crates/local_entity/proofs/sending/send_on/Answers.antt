@@ -12,25 +12,25 @@ new-requires-clause-data c =
     let does = c.requires.made.1 in (
       value_of (whole_packet u),
       does.2,
-      unit_length u c.args.made.now.body does.3 (length c.bytes-octets.result.now) (ap length c.bytes-octets.ensures.octets),
+      unit_length u c.args.made.now.body does.3 c.len-octets.result c.len-octets.ensures.octets,
     )
 
 pub returns-in-Ok-clause-sent : goal.returns-in-Ok-clause-sent
 returns-in-Ok-clause-sent c =
     let body : Extent = c.args.made.now.body in
-    let all : length (seen body) ≡ body.len = sym (ap length c.bytes-octets.ensures.octets) ∙ c.bytes-octets.ensures.len in
+    let all : length (seen body) ≡ body.len = sym c.len-octets.ensures.octets ∙ c.len-octets.ensures.len in
     on_ok_weaker c.give_pieces.result
-    (λ written u does first. unit_is_sent u c.args.hop c.args.port.now c.args.made.now.head body (length c.bytes-octets.result.now) c.new.result
+    (λ written u does first. unit_is_sent u c.args.hop c.args.port.now c.args.made.now.head body c.len-octets.result c.new.result
     c.in-Ok.cuts c.args.out.now.items c.give_pieces.new.out.items (record { spells = does.2; shown = does.3; whole = all })
-    (ap length c.bytes-octets.ensures.octets) c.new.ensures.cut c.in-Ok.is c.requires.least first written)
+    c.len-octets.ensures.octets c.new.ensures.cut c.in-Ok.is c.requires.least first written)
     c.give_pieces.ensures.given
 
 pub returns-in-Err-clause-sent : goal.returns-in-Err-clause-sent
 returns-in-Err-clause-sent c =
     let body : Extent = c.args.made.now.body in
-    let all : length (seen body) ≡ body.len = sym (ap length c.bytes-octets.ensures.octets) ∙ c.bytes-octets.ensures.len in
+    let all : length (seen body) ≡ body.len = sym c.len-octets.ensures.octets ∙ c.len-octets.ensures.len in
     on_ok_weaker c.note.result
-    (λ written u does first. unit_is_dropped u c.args.hop c.args.port.now c.args.made.now.head body (length c.bytes-octets.result.now) c.new.result
+    (λ written u does first. unit_is_dropped u c.args.hop c.args.port.now c.args.made.now.head body c.len-octets.result c.new.result
     c.in-Err.field-0 c.args.out.now.items c.note.new.out.items (record { spells = does.2; shown = does.3; whole = all })
-    (ap length c.bytes-octets.ensures.octets) c.new.ensures.cut c.in-Err.is c.requires.least first written)
+    c.len-octets.ensures.octets c.new.ensures.cut c.in-Err.is c.requires.least first written)
     c.note.ensures.noted

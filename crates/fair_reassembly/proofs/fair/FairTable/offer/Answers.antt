@@ -1,8 +1,6 @@
 -- By what the frame begins with.
 use Rattle.std.proofs.Common.{◌≡◌, ◌≤◌, ℕ, List, Some, refl, sym, ap, ◌∙◌, subst, arith}
 use Rattle.std.specs.Prelude.{option_map}
-use Rattle.std.proofs.Math.Seq.{take-length}
-use Rattle.pdu_header.specs.ClnpViews.Extent.{seen}
 use Rattle.pdu_header.specs.Grammar.{BeginsWith}
 use Rattle.pdu_header.specs.Value.{PduValue}
 use Rattle.pdu_header.specs.View.{part_value, pdu_value}
@@ -16,11 +14,8 @@ use Rattle.fair_reassembly.proofs.fair.FairTable.offer.Goals as goal
 use Rattle.fair_reassembly.proofs.fair.FairTable.offer.Goals.{After-segment, In-Ok}
 
 -- the octets that were decoded are those of the frame
-octets : (c : In-Ok) → c.bytes.result.now ≡ c.args.frame.frame
-octets c = c.bytes.ensures.octets ∙ ap seen c.requires.whole ∙ take-length c.args.frame.frame
-
 begins : (c : In-Ok) → BeginsWith c.args.frame.frame (pdu_value c.in-Ok.pdu) c.in-Ok.pdu.rest.now
-begins c = subst (λ (frame : List ℕ). BeginsWith frame (pdu_value c.in-Ok.pdu) c.in-Ok.pdu.rest.now) (octets c) c.in-Ok.ensures.found
+begins c = subst (λ (frame : List ℕ). BeginsWith frame (pdu_value c.in-Ok.pdu) c.in-Ok.pdu.rest.now) c.frame-2.ensures c.in-Ok.ensures.found
 
 value : (c : In-Ok) → pdu_value c.in-Ok.pdu ≡ value_in c.args.frame.frame
 value c = value_is c.args.frame.frame (pdu_value c.in-Ok.pdu) c.in-Ok.pdu.rest.now (begins c)

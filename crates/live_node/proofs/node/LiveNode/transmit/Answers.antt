@@ -60,7 +60,7 @@ returns-in-Done-clause-plays g c = λ node h.
     let change : ChangesPort c.args.sending.now.port board after (λ (a b : PortState). SendsOn a b sent.frame) =
     subst (λ (p : ℕ). ChangesPort p board after (λ (a b : PortState). SendsOn a b sent.frame)) c.from-port.ensures
     (subst (λ (octets : List ℕ). ChangesPort c.from-port.result board after (λ (a b : PortState). SendsOn a b (record { target = c.args.sending.now.to; octets = octets })))
-    (append-nil c.bytes.result.now ∙ c.bytes.ensures) c.in-Done.ensures) in
+    c.parts.ensures.octets c.in-Done.ensures) in
     transmits_taken live board after node h sent name name c.saturating_add-self.result named named c.saturating_add-self.ensures old old new on change
     c.in_ok-write_transmission.ensures.written
 

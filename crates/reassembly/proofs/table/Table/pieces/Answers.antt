@@ -74,5 +74,5 @@ returns c buffers whole stands found named =
     let arrivals : map arrival_of (segments_of c.at-opening.result.now.key (present c.entries.result.now)) ≡ whole.kept
     = (λ i. map arrival_of (segments_of (opening i).key (segments i))) ∙ sym keeps.0 in
     let len : c.from-end.result ≡ data_len whole.shape = c.from-end.ensures ∙ c.data_len.ensures ∙ (λ i. data_len (opening i).shape) in
-    c.new.ensures
+    c.of.ensures ∙ c.new.ensures
     ∙ (λ i. map (λ place. octet_by octet_in place (earliest (arrivals i) place)) (range_with_len 0 (len i)))

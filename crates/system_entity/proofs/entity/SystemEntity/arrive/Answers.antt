@@ -15,14 +15,14 @@ returns-in-Ok-clause-comes c =
     (λ arrival comes s content h carried frame.
     packet_found c.a_frame_carries_one_packet.ensures c.no_frame_is_of_both_protocols.ensures.esis
     (λ content. ComesOf arrival s c.args.neighbour c.args.group content c.pdu_comes.new.self c.args.out.now.items c.pdu_comes.new.out.items)
-    c.bytes.result.now (pdu_value c.in-Ok.pdu) c.in-Ok.pdu.rest.now c.in-Ok.ensures.found c.in-Ok.ensures.accepted.0 content carried (frame ∙ sym c.bytes.ensures)
-    (λ p following carriable same value. comes s p following h carriable (sym c.bytes.ensures ∙ same) value))
+    c.args.frame.now (pdu_value c.in-Ok.pdu) c.in-Ok.pdu.rest.now c.in-Ok.ensures.found c.in-Ok.ensures.accepted.0 content carried frame
+    (λ p following carriable same value. comes s p following h carriable same value))
     c.pdu_comes.ensures.comes
 
 pub returns-in_ok-drop_frame-in-Err-Broken-clause-comes : goal.returns-in_ok-drop_frame-in-Err-Broken-clause-comes
 returns-in_ok-drop_frame-in-Err-Broken-clause-comes c = λ s content h carried frame.
-    let same = frame_broken c.no_frame_is_of_both_protocols.ensures.esis s c.args.neighbour c.args.group c.bytes.result.now c.in-Err-Broken.broken
-    (c.in-Err-Broken.ensures.judged ∙ ap Some c.in-Err-Broken.field-0-is) c.in-Err-Broken.ensures.none content carried (frame ∙ sym c.bytes.ensures) in
+    let same = frame_broken c.no_frame_is_of_both_protocols.ensures.esis s c.args.neighbour c.args.group c.args.frame.now c.in-Err-Broken.broken
+    (c.in-Err-Broken.ensures.judged ∙ ap Some c.in-Err-Broken.field-0-is) c.in-Err-Broken.ensures.none content carried frame in
     record {
       parts = subst (λ (e : Effect). PartsStand c.drop_frame.new.self e.after) same
           (c.in_ok-drop_frame-in-Err-Broken.ensures.stands s content h carried frame);

@@ -19,16 +19,16 @@ use Rattle.system_entity.proofs.Outputs.{appends_note}
 pub returns-in_ok-give_note-in-Err-clause-stands : goal.returns-in_ok-give_note-in-Err-clause-stands
 returns-in_ok-give_note-in-Err-clause-stands c = λ s group content h carried frame.
     subst (λ (e : Effect). PartsStand c.args.self.now e.after)
-    (frame_unheard c.no_frame_is_of_both_protocols.ensures.packet s c.args.neighbour group c.bytes.result.now c.in-Err.refusal
-    c.in-Err.ensures.judged c.in-Err.ensures.none (λ at. c.requires.other (ap (λ (f : List ℕ). octet f 1) (sym c.bytes.ensures) ∙ at))
-    content carried (frame ∙ sym c.bytes.ensures)) h
+    (frame_unheard c.no_frame_is_of_both_protocols.ensures.packet s c.args.neighbour group c.octets_of.result.now c.in-Err.refusal
+    c.in-Err.ensures.judged c.in-Err.ensures.none (λ at. c.requires.other (ap (λ (f : List ℕ). octet f 1) (sym c.octets_of.ensures) ∙ at))
+    content carried (frame ∙ sym c.octets_of.ensures)) h
 
 pub returns-in_ok-give_note-in-Err-clause-outputs : goal.returns-in_ok-give_note-in-Err-clause-outputs
 returns-in_ok-give_note-in-Err-clause-outputs c = λ s group content h carried frame.
     subst (λ (e : Effect). Appends s.moment None c.args.out.now.items c.give_note.new.out.items e.outputs)
-    (frame_unheard c.no_frame_is_of_both_protocols.ensures.packet s c.args.neighbour group c.bytes.result.now c.in-Err.refusal
-    c.in-Err.ensures.judged c.in-Err.ensures.none (λ at. c.requires.other (ap (λ (f : List ℕ). octet f 1) (sym c.bytes.ensures) ∙ at))
-    content carried (frame ∙ sym c.bytes.ensures))
+    (frame_unheard c.no_frame_is_of_both_protocols.ensures.packet s c.args.neighbour group c.octets_of.result.now c.in-Err.refusal
+    c.in-Err.ensures.judged c.in-Err.ensures.none (λ at. c.requires.other (ap (λ (f : List ℕ). octet f 1) (sym c.octets_of.ensures) ∙ at))
+    content carried (frame ∙ sym c.octets_of.ensures))
     (appends_note s.moment None c.args.out.now.items c.give_note.new.out.items _ _ c.in_ok-give_note-in-Err.ensures.given c.unheard.ensures)
 
 -- an ES-IS PDU is heard
@@ -45,9 +45,9 @@ module _ (c : goal.In_ok-hear-in-Ok) (s : SystemState) (group : Bool) (content :
 
   of_value : (P : Content → Type 0) → ((following : List ℕ) → P (Esis v following)) → P content
   of_value P for_value =
-      value_found c.a_frame_carries_one_esis_value.ensures c.no_frame_is_of_both_protocols.ensures.packet P c.bytes.result.now v c.in-Ok.pdu.rest.now
-      c.in-Ok.ensures.found (λ at. c.requires.other (ap (λ (f : List ℕ). octet f 1) (sym c.bytes.ensures) ∙ at)) content carried
-      (frame ∙ sym c.bytes.ensures) for_value
+      value_found c.a_frame_carries_one_esis_value.ensures c.no_frame_is_of_both_protocols.ensures.packet P c.octets_of.result.now v c.in-Ok.pdu.rest.now
+      c.in-Ok.ensures.found (λ at. c.requires.other (ap (λ (f : List ℕ). octet f 1) (sym c.octets_of.ensures) ∙ at)) content carried
+      (frame ∙ sym c.octets_of.ensures) for_value
 
   heard : PartsStand (record (state_of c.self.inside) { esis = c.hear.new.self }) (content_comes s c.args.neighbour group content).after
   heard =

@@ -1,5 +1,5 @@
 -- A run of the unit is a piece of the earliest segment that has its places, and the rest follows.
-use Rattle.std.proofs.Common.{rules, ◌≡◌, ℕ, ◌-◌, ◌<◌, ◌≤◌, ◌++◌, ◌∷◌, true, false, Some, None, get_or, length, length-append, map, refl, sym, ap, subst, ◌∙◌, arith}
+use Rattle.std.proofs.Common.{rules, ◌≡◌, ℕ, ◌-◌, ◌<◌, ◌≤◌, ◌++◌, ◌∷◌, true, false, Some, None, get_or, length, map, refl, sym, ap, subst, ◌∙◌, arith}
 use Rattle.std.specs.Prelude.{is_some, slice_get}
 use Rattle.std.specs.List.{range_with_len}
 use Rattle.std.proofs.lemmas.Bool.{both_ways}
@@ -20,10 +20,10 @@ use Rattle.reassembly.proofs.Filling.{have_from, joined_order, not_behind}
 use Rattle.reassembly.proofs.Givers.{covered-giver}
 use Rattle.reassembly.proofs.Run.{arrivals_of, does_give}
 use Rattle.reassembly.proofs.Walk.{octets-add, octet_at, octets_at, piece_is}
-use Rattle.reassembly.proofs.pieces.PiecesIterator.next.Goals as goal
+use Rattle.reassembly.proofs.spans.Spans.next.Goals as goal
 
-pub returns-in_default-by-clause-steps : goal.returns-in_default-by-clause-steps
-returns-in_default-by-clause-steps c =
+pub returns-in_default-by : goal.returns-in_default-by
+returns-in_default-by c =
     let p = c.self.inside in
     let run = c.in-Some.run' in
     let rest = c.next.new.self in
@@ -67,8 +67,8 @@ bounds-self-inside-from c =
     let on : p.place < run.to = omega (arith, joined.0, joined.1.0) in
     (first p.place (omega arith) on).within
 
-pub octets-piece-requires-clause-came : goal.octets-piece-requires-clause-came
-octets-piece-requires-clause-came c =
+pub octets-parts-requires-clause-came : goal.octets-parts-requires-clause-came
+octets-parts-requires-clause-came c =
     let p = c.self.inside in
     let run = c.in-Some.run' in
     let rest = c.next.new.self in
@@ -87,8 +87,8 @@ octets-piece-requires-clause-came c =
     let there = present_at p.entries.now c.from.result segment at in
     AllByRecursion-slice_get MayCome (present p.entries.now) there.0 segment there.1 c.self.invariant.1
 
-pub octets-piece-requires-clause-from : goal.octets-piece-requires-clause-from
-octets-piece-requires-clause-from c =
+pub octets-parts-requires-clause-from : goal.octets-parts-requires-clause-from
+octets-parts-requires-clause-from c =
     let p = c.self.inside in
     let run = c.in-Some.run' in
     let rest = c.next.new.self in
@@ -105,8 +105,8 @@ octets-piece-requires-clause-from c =
     ∙ get_or_default p.entries.now c.from.result c.index-self-from.result (Some segment) (first p.place (omega arith) on).within in
     omega (arith, (does_give p.key p.place segment ((first p.place (omega arith) on).passes (Some segment) read)).from, c.from-2.ensures, joined.0)
 
-pub octets-piece-requires-clause-to : goal.octets-piece-requires-clause-to
-octets-piece-requires-clause-to c =
+pub octets-parts-requires-clause-to : goal.octets-parts-requires-clause-to
+octets-parts-requires-clause-to c =
     let p = c.self.inside in
     let run = c.in-Some.run' in
     let rest = c.next.new.self in
@@ -143,8 +143,8 @@ invariant_of-self-2 c =
           sym (ap (filler at) runs_are ∙ behind) ∙ c.self.invariant.4 at (omega (arith, low, next, on)) high),
     )
 
-pub returns-clause-steps : goal.returns-clause-steps
-returns-clause-steps c =
+pub returns : goal.returns
+returns c =
     let p = c.self.inside in
     let run = c.in-Some.run' in
     let rest = c.next.new.self in
@@ -163,7 +163,7 @@ returns-clause-steps c =
     let next_is : next ≡ run.to = c.from-self-inside.ensures in
     let from_is : c.from-2.result ≡ p.place = c.from-2.ensures ∙ joined.0 in
     let len_is : c.from-len.result ≡ next - p.place = omega (arith, c.from-len.ensures, next_is, joined.0) in
-    let piece = c.octets-piece.ensures
+    let piece = c.octets-parts.ensures
     ∙ (λ i. map (octet_in (arrival_of segment)) (range_with_len (from_is i) (len_is i)))
     ∙ piece_is p.key p.entries.now c.from.result p.place (next - p.place) segment
     (λ at low high. sym (c.self.invariant.4 at low (omega (arith, high, next_is, order, on))) ∙ ap (filler at) runs_are
@@ -174,17 +174,8 @@ returns-clause-steps c =
           ∙ ap (λ l. l ++ octets_at p.key p.entries.now next (p.end - next)) (sym piece),
     )
 
-pub returns-clause-goes : goal.returns-clause-goes
-returns-clause-goes c =
-    let p = c.self.inside in
-    let steps = returns-clause-steps c in
-    let left = octets_at p.key p.entries.now c.from-self-inside.result (p.end - c.from-self-inside.result) in
-    let fewer : length left < length c.args.self.now =
-    omega (arith, steps.0, ap length steps.1, length-append c.octets-piece.result.now left) in
-    record { on = λ finite. search (rules, fewer); keeps = search rules; rests = search rules }
-
-pub returns-in_default-entries-clause-steps : goal.returns-in_default-entries-clause-steps
-returns-in_default-entries-clause-steps c =
+pub returns-in_default-entries : goal.returns-in_default-entries
+returns-in_default-entries c =
     let p = c.self.inside in
     let run = c.in-Some.run' in
     let rest = c.next.new.self in

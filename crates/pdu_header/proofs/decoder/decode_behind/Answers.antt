@@ -1,0 +1,53 @@
+use Rattle.std.proofs.Common.{◌∙◌, ◌++◌, ap, length, arith, rules, sym}
+use Rattle.pdu_header.specs.View.{pdu_value}
+use Rattle.pdu_header.proofs.Frames.{nothing_spelled, read_front, read_header}
+use Rattle.pdu_header.proofs.ShortHeaders.{header_there, octets_of_both, protocol_there, refusal_there, reportable_there, rest_there, value_there}
+use Rattle.pdu_header.proofs.Written.{length-header}
+use Rattle.pdu_header.proofs.decoder.decode_behind.Goals as goal
+
+pub returns-in-Ok-clause-accepted : goal.returns-in-Ok-clause-accepted
+returns-in-Ok-clause-accepted c = (
+  protocol_there c.args.head.now c.args.behind.now c.requires,
+  refusal_there c.args.head.now c.args.behind.now c.requires ∙ c.in-Ok.ensures.judged,
+)
+
+pub returns-in-Ok-clause-judged : goal.returns-in-Ok-clause-judged
+returns-in-Ok-clause-judged c =
+    let stands = returns-in-Ok-clause-accepted c in
+    search rules
+
+pub returns-in-Ok-clause-found : goal.returns-in-Ok-clause-found
+returns-in-Ok-clause-found c =
+    let stands = returns-in-Ok-clause-accepted c in
+    read_front (c.args.head.now ++ c.args.behind.now) _ _
+    (octets_of_both c.args.head.now c.args.behind.now (λ i. omega (arith, c.type_inv.head i)) (λ i. omega (arith, c.type_inv.behind i)))
+    stands.0 stands.1
+    (c.in-Ok.ensures.value ∙ value_there c.args.head.now c.args.behind.now c.requires)
+    (c.in-Ok.ensures.rest ∙ rest_there c.args.head.now c.args.behind.now c.requires)
+
+pub returns-in-Ok-clause-header : goal.returns-in-Ok-clause-header
+returns-in-Ok-clause-header c =
+    let stands = returns-in-Ok-clause-accepted c in
+    read_header (c.args.head.now ++ c.args.behind.now) _ _
+    (octets_of_both c.args.head.now c.args.behind.now (λ i. omega (arith, c.type_inv.head i)) (λ i. omega (arith, c.type_inv.behind i)))
+    stands.0 stands.1
+    (c.in-Ok.ensures.head ∙ sym (header_there c.args.head.now c.args.behind.now c.requires))
+    (c.in-Ok.ensures.value ∙ value_there c.args.head.now c.args.behind.now c.requires)
+
+pub returns-in-Ok-clause-spells : goal.returns-in-Ok-clause-spells
+returns-in-Ok-clause-spells c = record { pdu = (returns-in-Ok-clause-found c).spells.pdu; octets_are = returns-in-Ok-clause-header c }
+
+pub returns-in-Ok-clause-size : goal.returns-in-Ok-clause-size
+returns-in-Ok-clause-size c = ap length (returns-in-Ok-clause-header c) ∙ length-header (pdu_value c.in-Ok.pdu)
+
+pub returns-in-Err-clause-judged : goal.returns-in-Err-clause-judged
+returns-in-Err-clause-judged c =
+    let protocol = protocol_there c.args.head.now c.args.behind.now c.requires in
+    let broken = refusal_there c.args.head.now c.args.behind.now c.requires ∙ c.in-Err.ensures.judged in
+    let reported = reportable_there c.args.head.now c.args.behind.now c.requires in
+    search rules
+
+pub returns-in-Err-clause-none : goal.returns-in-Err-clause-none
+returns-in-Err-clause-none c =
+    nothing_spelled (c.args.head.now ++ c.args.behind.now) _
+    (refusal_there c.args.head.now c.args.behind.now c.requires ∙ c.in-Err.ensures.judged)
