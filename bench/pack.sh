@@ -7,7 +7,7 @@ set -eu
 root="$(cd "$(dirname "$0")/.." && pwd)"
 work="$(mktemp -d)"
 trap 'rm -rf "$work"' EXIT
-"$root/clnp" --version >/dev/null
+"$root/bench/built.sh"
 
 python3 - "$work" <<'PYTHON'
 import random, sys

@@ -8,7 +8,7 @@ set -eu
 root="$(cd "$(dirname "$0")/.." && pwd)"
 work="$(mktemp -d)"
 trap 'rm -rf "$work"' EXIT
-"$root/clnp" --version >/dev/null
+"$root/bench/built.sh"
 rustc -O -o "$work/plain" "$root/bench/plain_reassemble.rs"
 
 python3 - "$work" <<'PYTHON'

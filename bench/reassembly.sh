@@ -7,7 +7,7 @@ set -eu
 root="$(cd "$(dirname "$0")/.." && pwd)"
 work="$(mktemp -d)"
 trap 'rm -rf "$work"' EXIT
-"$root/clnp" --version >/dev/null
+"$root/bench/built.sh"
 rustc -O -o "$work/plain" "$root/bench/plain_sim.rs"
 
 for units in 160 320; do

@@ -11,7 +11,7 @@ root="$(cd "$(dirname "$0")/.." && pwd)"
 work="$(mktemp -d)"
 trap 'rm -rf "$work"' EXIT
 program="${2:-$root/crates/clnp_tool/out/clnp_tool}"
-[ $# -ge 2 ] || "$root/clnp" --version >/dev/null
+[ $# -ge 2 ] || "$root/bench/built.sh"
 rustc -O --edition 2021 -o "$work/plain" "$root/bench/plain_run.rs"
 
 python3 - "$program" "$work/plain" "${1:-2}" "$root/tests/models" <<'PYTHON'

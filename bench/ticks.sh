@@ -7,7 +7,7 @@ set -eu
 root="$(cd "$(dirname "$0")/.." && pwd)"
 work="$(mktemp -d)"
 trap 'rm -rf "$work"' EXIT
-"$root/clnp" --version >/dev/null
+"$root/bench/built.sh"
 rustc -O -o "$work/plain" "$root/bench/plain_hostile.rs"
 
 for ticks in 30000 60000; do

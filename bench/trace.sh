@@ -6,7 +6,7 @@
 set -eu
 root="$(cd "$(dirname "$0")/.." && pwd)"
 program="${2:-$root/crates/clnp_tool/out/clnp_tool}"
-[ $# -ge 2 ] || "$root/clnp" --version >/dev/null
+[ $# -ge 2 ] || "$root/bench/built.sh"
 
 python3 - "${1:-5}" "$program" <<'PYTHON'
 import os, random, subprocess, sys, tempfile
