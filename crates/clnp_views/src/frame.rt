@@ -95,20 +95,20 @@ impl Frame {
     pub fn with_data(
         alloc: Global,
         head: &[u8],
-        data: &View,
+        body: &View,
         from: usize,
         len: usize,
     ) -> Result<Frame, NoMemory>
-        requires { from + len ≤ data.now.len }
-        ensures { IfOk result (λ frame. frame ≡ head.now ++ take len (drop from (seen data.now))) }
+        requires { from + len ≤ body.now.len }
+        ensures { IfOk result (λ frame. frame ≡ head.now ++ take len (drop from (seen body.now))) }
     {
-        let frame = data.frame();
-        let place = data.place(from);
+        let frame = body.frame();
+        let place = body.place(from);
         let own = frame.front.len();
         if is_short_header(head) && own <= place {
             return sharing(head, &frame.octets, frame.from + (place - own), len);
         }
-        joined(alloc, head, data, from, len)
+        joined(alloc, head, body, from, len)
     }
 
     /// The number of octets.
@@ -198,14 +198,14 @@ fn sharing(head: &[u8], octets: &RcSlice<u8>, from: usize, len: usize) -> Result
 fn joined(
     alloc: Global,
     head: &[u8],
-    data: &View,
+    body: &View,
     from: usize,
     len: usize,
 ) -> Result<Frame, NoMemory>
-    requires { from + len ≤ data.now.len }
-    ensures { IfOk result (λ frame. frame ≡ head.now ++ take len (drop from (seen data.now))) }
+    requires { from + len ≤ body.now.len }
+    ensures { IfOk result (λ frame. frame ≡ head.now ++ take len (drop from (seen body.now))) }
 {
-    let (front, behind) = data.parts(from, len);
+    let (front, behind) = body.parts(from, len);
     let mut octets = Vec::with_capacity(alloc, head.len().saturating_add(len))?;
     octets.extend_from_slice(head)?;
     octets.extend_from_slice(front)?;

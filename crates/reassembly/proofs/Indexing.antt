@@ -470,6 +470,29 @@ closed_index entries openings groups shaped index =
           (closed_runs entries opening before.0 (omega (arith, some)) (index.each slot opening before.0 at before.1));
     }
 
+-- ---- all entries go where each is empty
+
+idle_runs : (entries : List (Option Segment)) (opening : Opening) (runs : List Run) → present entries ≡ [] → AreRunsOf entries opening runs
+    → AreRunsOf [] opening runs
+idle_runs entries opening runs idle are =
+    let none = λ (place : ℕ). giver-none opening.key place entries (ap (segments_of opening.key) idle) in
+    let lacks = λ (place : ℕ). ap {B = ℕ} (λ (o : Option ℕ). cond (is_none o) 1 0) (none place) in
+    let number = ap (λ (l : List Segment). length (segments_of opening.key l)) idle in
+    record {
+      joined = are.joined;
+      filled = λ place within. are.filled place within ∙ none place;
+      few = omega (arith, number, are.few, lacks 0, lacks (data_len opening.shape - 1));
+      few_pieces = λ more. absurd (omega (arith, more));
+      each = λ index segment at mine. absurd (let no : ⊥ = cc at in no);
+    }
+
+pub idle_index : (entries : List (Option Segment)) (openings : List Opening) (groups : List (List Run)) → present entries ≡ []
+    → IsIndexOf entries openings groups → IsIndexOf [] openings groups
+idle_index entries openings groups idle index = record {
+  number = index.number;
+  each = λ slot opening runs at there. idle_runs entries opening runs idle (index.each slot opening runs at there);
+}
+
 -- ---- one segment is taken out
 
 each_without : (entries : List (Option Segment)) (opening : Opening) (by : Option ℕ) → EachGives entries opening → EachGives (emptied_at by entries) opening

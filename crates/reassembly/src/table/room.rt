@@ -8,7 +8,8 @@ ghost use Rattle.reassembly.specs.Index.{IsIndexOf};
 use crate::runs::Runs;
 use crate::segments::Segments;
 
-/// Makes room for a segment more, where there is none but in empty entries.
+/// Makes room for a segment more, where there is none but in empty entries. Where no segment is kept, all entries go, so that
+/// those of the next units stand where others stood.
 pub(super) fn make_room(segments: &mut Segments, runs: &mut Runs, names: &mut Vec<u16>)
     requires few { length (present segments.old.entries) < segments.old.room }
     requires within { length segments.old.entries ≤ segments.old.room }
@@ -23,7 +24,9 @@ pub(super) fn make_room(segments: &mut Segments, runs: &mut Runs, names: &mut Ve
     ensures runs { runs.old.room ≤ runs.new.room }
     ensures capacity { vec_capacity names.old ≤ vec_capacity names.new }
 {
-    if segments.is_full() {
+    if segments.len() == 0 {
+        segments.clear();
+    } else if segments.is_full() {
         segments.close_up(names);
         runs.rename(names);
     }

@@ -1,16 +1,24 @@
--- The empty entries are closed up, and the runs tell the new indices.
-use Rattle.std.proofs.Common.{◌∙◌, Option, Some, ℕ, length, map, ap, sym, subst, arith}
-use Rattle.std.specs.Prelude.{List}
+-- Where no segment is kept all entries go; else the empty ones are closed up, and the runs tell the new indices.
+use Rattle.std.proofs.Common.{◌∙◌, Option, Some, ℕ, length, map, ap, sym, subst, arith, rules}
+use Rattle.std.specs.Prelude.{◌≡◌, List}
 use Rattle.std.proofs.lemmas.Bool.{leb-false}
-use Rattle.std.proofs.lemmas.List.{length-map}
+use Rattle.std.proofs.lemmas.List.{length-map, nil_from_length}
 use Rattle.reassembly.specs.declared.runs.Run.{Run}
 use Rattle.reassembly.specs.declared.segment.Segment.{Segment}
 use Rattle.reassembly.specs.Entries.{full, present}
 use Rattle.reassembly.specs.Index.{IsIndexOf}
 use Rattle.reassembly.specs.Runs.{renamed}
 use Rattle.reassembly.proofs.Entries.{present-full}
-use Rattle.reassembly.proofs.Indexing.{closed_index}
+use Rattle.reassembly.proofs.Indexing.{closed_index, idle_index}
 use Rattle.reassembly.proofs.table.room.make_room.Goals as goal
+
+pub returns-then-len-eq0-clause-index : goal.returns-then-len-eq0-clause-index
+returns-then-len-eq0-clause-index c openings shaped index =
+    let entries = c.args.segments.now.entries in
+    let groups = c.args.runs.now.groups in
+    let none : length (present entries) ≡ 0 = search rules in
+    subst (λ (l : List (Option Segment)). IsIndexOf l openings groups) (sym c.clear.ensures.entries)
+    (idle_index entries openings groups (nil_from_length (present entries) none) index)
 
 pub returns-then-is_full-clause-present : goal.returns-then-is_full-clause-present
 returns-then-is_full-clause-present c =
