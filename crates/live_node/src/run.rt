@@ -66,7 +66,6 @@ pub fn run_node<K: Sink, C: Clock, B: Ports>(
     // Its clause: what a scenario that was read says is fit to be run.
     scenario.is_fit();
     let start = clock.now();
-    // The node comes last: it has the most parts, and is taken apart where memory is refused behind it.
     let Ok(mut room) = room_for_a_frame(alloc) else {
         return Err(RunStop::NoMemory);
     };
@@ -74,7 +73,7 @@ pub fn run_node<K: Sink, C: Clock, B: Ports>(
         return Err(RunStop::NoMemory);
     };
     run_opened(
-        alloc, scenario, start, turns, &mut live, board, clock, &mut room, sink,
+        alloc, scenario, start, turns, &mut *live, board, clock, &mut room, sink,
     )
 }
 
@@ -115,18 +114,18 @@ fn room_for_a_frame(alloc: Global) -> Result<Vec<u8>, NoMemory>
     Ok(vec![in alloc; 0u8; LONGEST_FRAME]?)
 }
 
-/// The node of the system of a scenario at its start.
-fn open(alloc: Global, scenario: &Scenario, start: u64) -> Result<LiveNode, NoMemory>
+/// The node of the system of a scenario at its start. It is boxed, since it has many parts.
+fn open(alloc: Global, scenario: &Scenario, start: u64) -> Result<Box<LiveNode>, NoMemory>
     requires one { length scenario.now.systems ≡ 1 }
     requires early { start < 2 ^ 62 }
     ensures stands { IfOk result (λ live. (system : SystemConfiguration) (ports : List PortState) → scenario.now.systems ≡ system ∷ []
-        → Stands live ports (first_node scenario.now.limits system start (attached_of ports))) }
-    ensures moment { IfOk result (λ live. (clnp_systems.entity_of live.system).moment ≡ start) }
+        → Stands live.value ports (first_node scenario.now.limits system start (attached_of ports))) }
+    ensures moment { IfOk result (λ live. (clnp_systems.entity_of live.value.system).moment ≡ start) }
 {
     // Its clause: the limits are within their ranges, as a system asks at its start.
     scenario.is_fit();
     let live = LiveNode::new(alloc, &scenario.systems()[0], scenario.limits(), start)?;
-    Ok(live)
+    Ok(Box::new(alloc, live)?)
 }
 
 /// Takes so many turns, from the first of all events on; no more than the one behind which no link is attached.

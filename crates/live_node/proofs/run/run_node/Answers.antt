@@ -1,4 +1,8 @@
 -- From the start to the end.
+use Rattle.std.proofs.Common.{subst, sym}
+use Rattle.live_model.specs.Course.{first_node}
+use Rattle.live_node.specs.Plays.{Stands, attached_of}
+use Rattle.live_node.specs.declared.node.LiveNode.{LiveNode}
 use Rattle.live_node.proofs.Runs.{only_one, ran_nowhere}
 use Rattle.live_node.proofs.run.run_node.Goals as goal
 
@@ -15,5 +19,7 @@ returns-in_default-open-clause-ran g c =
 pub returns-clause-ran : goal.returns-clause-ran
 returns-clause-ran g c =
     let one = only_one c.args.scenario.now.systems c.requires.one in
+    let ports = g.B.Ports.ports c.args.board.now in
     c.run_opened.ensures.ran one.0 (g.C.Clock.moments c.args.clock.now) one.1 c.now-start.ensures.given
-    (c.in-Ok-open.ensures.stands one.0 (g.B.Ports.ports c.args.board.now) one.1)
+    (subst (λ (node : LiveNode). Stands node ports (first_node c.args.scenario.now.limits one.0 c.now-start.result (attached_of ports)))
+    (sym c.deref_mut.ensures.value) (c.in-Ok-open.ensures.stands one.0 ports one.1))
