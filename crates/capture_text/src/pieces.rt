@@ -1,7 +1,8 @@
 //! What the words of a shown line say of a frame.
-ghost use Rattle.std.specs.Prelude.{◌≡◌, Some, MatchResult};
+ghost use Rattle.std.specs.Prelude.{◌≡◌, Some, MatchOption, MatchResult, codes, drop, if◌then◌else◌};
 ghost use Rattle.captures.specs.ClnpBase.Text.{words_of};
-ghost use Rattle.capture_text.specs.Said.{nothing, says_data, says_listed, says_number, says_rest, says_sum};
+ghost use Rattle.capture_text.specs.Said.{Said, nothing, says_data, says_listed, says_number, says_part, says_rest, says_sum, with_counted};
+ghost use Rattle.capture_text.specs.Packing.{has_prefix};
 ghost use Rattle.capture_text.specs.Words.{says_address, says_field, says_word, says_words};
 ghost use Rattle.capture_text.specs.View.{Misses, said_by};
 
@@ -51,6 +52,26 @@ pub(crate) fn pieces_of(
     Ok(pieces)
 }
 
+/// The digits of an address that isn't one of many.
+#[tactic(auto, unfolding(crate::specs::Words::says_address))]
+fn address_in(word: &[u8]) -> Option<&[u8]>
+    ensures { MatchOption result
+        ((said : Said) → says_address said word.now
+        ≡ (if has_prefix (codes "addr=") word.now then says_listed said (drop 5 word.now) else says_field said word.now))
+        (λ digits. (said : Said) → says_address said word.now ≡ says_part said (with_counted said.part digits.now)) }
+{
+    if let Some(digits) = behind(b"to=", word) {
+        return Some(digits);
+    }
+    if let Some(digits) = behind(b"from=", word) {
+        return Some(digits);
+    }
+    if let Some(digits) = behind(b"via=", word) {
+        return Some(digits);
+    }
+    behind(b"title=", word)
+}
+
 impl Pieces {
     /// What no word says.
     fn new(alloc: Global) -> Pieces
@@ -91,21 +112,11 @@ impl Pieces {
     }
 
     /// Adds an address.
-    #[tactic(auto, unfolding(crate::specs::Words::says_address))]
     fn add_address(&mut self, values: &DigitValues, word: &[u8]) -> Result<(), PackRefusal>
         ensures { let reading = says_address (said_by self.old) word.now in
             MatchResult result (λ _. reading ≡ Some (said_by self.new)) (λ refusal. Misses refusal reading) }
     {
-        if let Some(digits) = behind(b"to=", word) {
-            return push_counted_in(values, digits, &mut self.part);
-        }
-        if let Some(digits) = behind(b"from=", word) {
-            return push_counted_in(values, digits, &mut self.part);
-        }
-        if let Some(digits) = behind(b"via=", word) {
-            return push_counted_in(values, digits, &mut self.part);
-        }
-        if let Some(digits) = behind(b"title=", word) {
+        if let Some(digits) = address_in(word) {
             return push_counted_in(values, digits, &mut self.part);
         }
         if let Some(digits) = behind(b"addr=", word) {

@@ -301,48 +301,59 @@ fn push_hearing<'a>(
         ++ line_from start.entry (codes "hear" ∷ table_word table ∷ hex_text key.now ∷ heard_words heard)) }
     ensures same { OnErr result (out.new.items ≡ out.old.items) }
 {
-    let table = table_word(table);
-    let key = Word::Address(key);
     match heard {
-        Heard::New => push_heard(start, table, key, b"new", out),
-        Heard::Again => push_heard(start, table, key, b"again", out),
-        Heard::Zero => push_heard(start, table, key, b"zero", out),
-        Heard::Full { entries } => {
-            let words = [
-                Word::Text(start.name),
-                Word::Text(b"hear"),
-                table,
-                key,
-                Word::Text(b"full"),
-                Word::Number(u64::from(entries)),
-            ];
-            push_line(Word::Number(start.moment), &words, out)
-        }
+        Heard::New => push_outcome(start, table, key, b"new", out),
+        Heard::Again => push_outcome(start, table, key, b"again", out),
+        Heard::Zero => push_outcome(start, table, key, b"zero", out),
+        Heard::Full { entries } => push_full(start, table, key, entries, out),
     }
 }
 
-/// Appends the line of a hearing that ends with a text.
+/// Appends the line of a hearing whose outcome is one text.
 #[inline(always)]
-fn push_heard<'a>(
+fn push_outcome<'a>(
     start: Start<'a>,
-    table: Word<'a>,
-    key: Word<'a>,
+    table: TableKind,
+    key: &'a Address,
     how: &'a [u8],
     out: &mut Vec<u8>,
 ) -> Result<(), NoMemory>
     ensures written { OnOk result (out.new.items ≡ out.old.items
-        ++ line_from start.entry (codes "hear" ∷ word_text table.entry ∷ word_text key.entry ∷ how.now ∷ [])) }
+        ++ line_from start.entry (codes "hear" ∷ table_word table ∷ hex_text key.now ∷ how.now ∷ [])) }
     ensures same { OnErr result (out.new.items ≡ out.old.items) }
 {
     push_line_of_six(
         Word::Number(start.moment),
         Word::Text(start.name),
         Word::Text(b"hear"),
-        table,
-        key,
+        table_word(table),
+        Word::Address(key),
         Word::Text(how),
         out,
     )
+}
+
+/// Appends the line of a hearing that a full table has no room for.
+fn push_full<'a>(
+    start: Start<'a>,
+    table: TableKind,
+    key: &'a Address,
+    entries: u16,
+    out: &mut Vec<u8>,
+) -> Result<(), NoMemory>
+    ensures written { OnOk result (out.new.items ≡ out.old.items
+        ++ line_from start.entry (codes "hear" ∷ table_word table ∷ hex_text key.now ∷ codes "full" ∷ decimal entries ∷ [])) }
+    ensures same { OnErr result (out.new.items ≡ out.old.items) }
+{
+    let words = [
+        Word::Text(start.name),
+        Word::Text(b"hear"),
+        table_word(table),
+        Word::Address(key),
+        Word::Text(b"full"),
+        Word::Number(u64::from(entries)),
+    ];
+    push_line(Word::Number(start.moment), &words, out)
 }
 
 /// Appends the line of a port that was put on a subnetwork.

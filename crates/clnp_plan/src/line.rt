@@ -92,11 +92,29 @@ pub(crate) fn push_line_of_six<'a>(
         (five_texts one.entry two.entry three.entry four.entry five.entry)) }
     ensures same { OnErr result (out.new.items ≡ out.old.items) }
 {
+    push_six(&first, &one, &two, &three, &four, &five, out)
+}
+
+/// The same of words that stand elsewhere.
+#[inline(always)]
+fn push_six(
+    first: &Word<'_>,
+    one: &Word<'_>,
+    two: &Word<'_>,
+    three: &Word<'_>,
+    four: &Word<'_>,
+    five: &Word<'_>,
+    out: &mut Vec<u8>,
+) -> Result<(), NoMemory>
+    ensures written { OnOk result (out.new.items ≡ out.old.items ++ line_of (word_text first.now)
+        (five_texts one.now two.now three.now four.now five.now)) }
+    ensures same { OnErr result (out.new.items ≡ out.old.items) }
+{
     let start = out.len();
-    let words = room_for_five(&one, &two, &three, &four, &five);
-    let room = room_for(&first).saturating_add(words).saturating_add(1);
+    let words = room_for_five(one, two, three, four, five);
+    let room = room_for(first).saturating_add(words).saturating_add(1);
     make_room(room, out)?;
-    let len = lay_line_of_six(&first, &one, &two, &three, &four, &five, &mut out[start..]);
+    let len = lay_line_of_six(first, one, two, three, four, five, &mut out[start..]);
     out.truncate(start + len);
     Ok(())
 }

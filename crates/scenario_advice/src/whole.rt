@@ -174,33 +174,49 @@ fn key_part(word: &[u8], more: More) -> &[u8] {
     word
 }
 
+/// What is said of an address, an SNPA or a route that stands already.
 fn of_address_again(at: Place<'_>, line: &[u8], keyword: &[u8]) -> Option<Advice> {
     if same(keyword, b"address") {
-        let word = word_at(line, 3)?;
-        let address = Address::from_text(word).ok()?;
-        let found = at.before(b"address", Mark::Address(&address))?;
-        let what = Advice::of("the address ").word(word);
-        let owner = word_at(found.line, 2)?;
-        return again(what.text(" is already one of ").octets(owner), found);
+        return of_nsap_again(at, line);
     }
     if same(keyword, b"port") {
-        let subnet = word_at(line, 4)?;
-        let word = word_at(line, 5)?;
-        let snpa = Snpa::from_text(word).ok()?;
-        let found = at.before(
-            b"port",
-            Mark::Snpa {
-                subnet,
-                snpa: &snpa,
-            },
-        )?;
-        let owner = word_at(found.line, 2)?;
-        let what = Advice::of("the SNPA ")
-            .word(word)
-            .text(" on ")
-            .octets(subnet);
-        return again(what.text(" is already that of ").octets(owner), found);
+        return of_snpa_again(at, line);
     }
+    of_route_again(at, line)
+}
+
+/// What is said of an address that a system has already.
+fn of_nsap_again(at: Place<'_>, line: &[u8]) -> Option<Advice> {
+    let word = word_at(line, 3)?;
+    let address = Address::from_text(word).ok()?;
+    let found = at.before(b"address", Mark::Address(&address))?;
+    let what = Advice::of("the address ").word(word);
+    let owner = word_at(found.line, 2)?;
+    again(what.text(" is already one of ").octets(owner), found)
+}
+
+/// What is said of an SNPA that another port has there already.
+fn of_snpa_again(at: Place<'_>, line: &[u8]) -> Option<Advice> {
+    let subnet = word_at(line, 4)?;
+    let word = word_at(line, 5)?;
+    let snpa = Snpa::from_text(word).ok()?;
+    let found = at.before(
+        b"port",
+        Mark::Snpa {
+            subnet,
+            snpa: &snpa,
+        },
+    )?;
+    let owner = word_at(found.line, 2)?;
+    let what = Advice::of("the SNPA ")
+        .word(word)
+        .text(" on ")
+        .octets(subnet);
+    again(what.text(" is already that of ").octets(owner), found)
+}
+
+/// What is said of a prefix for which a system has a route already.
+fn of_route_again(at: Place<'_>, line: &[u8]) -> Option<Advice> {
     let name = word_at(line, 2)?;
     let word = word_at(line, 3)?;
     let prefix = Prefix::from_text(word).ok()?;

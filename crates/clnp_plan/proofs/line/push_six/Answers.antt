@@ -3,7 +3,7 @@ use Rattle.std.proofs.Common.{◌≡◌, ◌∙◌, List, ℕ, arith, length, ve
 use Rattle.clnp_plan.specs.Journal.{line_of}
 use Rattle.clnp_plan.specs.Words.{five_texts, word_text}
 use Rattle.clnp_plan.proofs.Laying.{before_room, filled, lies_within}
-use Rattle.clnp_plan.proofs.line.push_line_of_six.Goals as goal
+use Rattle.clnp_plan.proofs.line.push_six.Goals as goal
 
 pub returns-clause-written : goal.returns-clause-written
 returns-clause-written c =
@@ -12,11 +12,26 @@ returns-clause-written c =
     let given = c.deref_mut.result.now in
     let place = c.lay_line_of_six-len.new.place in
     let len = c.lay_line_of_six-len.result in
-    let others = five_texts c.args.one c.args.two c.args.three c.args.four c.args.five in
-    let line : List ℕ = line_of (word_text c.args.first) others in
+    let others = five_texts c.args.one.now c.args.two.now c.args.three.now c.args.four.now c.args.five.now in
+    let line : List ℕ = line_of (word_text c.args.first.now) others in
     let at : start ≡ length old = omega arith in
     let front = before_room old _ c.make_room.new.out.items given start at c.deref_mut.ensures.value c.in_ok-make_room.ensures.written in
     let within = lies_within old given place line start len (vec_len c.make_room.new.out) at front c.lay_line_of_six-len.auto.place
     c.lay_line_of_six-len.ensures.end c.lay_line_of_six-len.ensures.laid c.deref_mut.ensures.len in
     c.truncate.ensures.items
     ∙ filled old given place line _ _ start len c.make_room.new.out.len at c.lay_line_of_six-len.ensures.end c.lay_line_of_six-len.ensures.laid front within
+
+pub overflow_add-start : goal.overflow_add-start
+overflow_add-start c =
+    let old = c.args.out.now.items in
+    let start = c.len-start.result in
+    let given = c.deref_mut.result.now in
+    let place = c.lay_line_of_six-len.new.place in
+    let len = c.lay_line_of_six-len.result in
+    let others = five_texts c.args.one.now c.args.two.now c.args.three.now c.args.four.now c.args.five.now in
+    let line : List ℕ = line_of (word_text c.args.first.now) others in
+    let at : start ≡ length old = omega arith in
+    let front = before_room old _ c.make_room.new.out.items given start at c.deref_mut.ensures.value c.in_ok-make_room.ensures.written in
+    let within = lies_within old given place line start len (vec_len c.make_room.new.out) at front c.lay_line_of_six-len.auto.place
+    c.lay_line_of_six-len.ensures.end c.lay_line_of_six-len.ensures.laid c.deref_mut.ensures.len in
+    omega (arith, within)
