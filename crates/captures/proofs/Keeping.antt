@@ -1,5 +1,5 @@
 -- What is written behind what stood there.
-use Rattle.std.proofs.Common.{◌≡◌, ◌++◌, ℕ, List, [], ◌∷◌, Result, Ok, Err, OnErr, refl}
+use Rattle.std.proofs.Common.{◌≡◌, ◌++◌, ℕ, List, [], ◌∷◌, Result, Ok, Err, OnErr, refl, ap}
 use Rattle.std.proofs.Math.Seq.{take-append_seam}
 use Rattle.captures.specs.Kept.{Keeps}
 
@@ -12,6 +12,23 @@ keeps_more (x ∷ old) [] new first second = absurd (cc)
 keeps_more (x ∷ old) (y ∷ middle) [] first second = absurd (cc)
 keeps_more (x ∷ old) (y ∷ middle) (z ∷ new) first second =
     let rest = keeps_more old middle new (cc) (cc) in cc
+
+pub keeps_itself : (old : List ℕ) → Keeps old old
+keeps_itself [] = refl
+keeps_itself (x ∷ old) = ap (λ t. x ∷ t) (keeps_itself old)
+
+-- one piece more behind what stood there
+pub keeps_next : (old middle text new : List ℕ) → Keeps old middle → new ≡ middle ++ text → Keeps old new
+keeps_next old middle text new first e = keeps_more old middle new first (keeps_appended middle text new e)
+
+pub keeps_same : (old middle new : List ℕ) → Keeps old middle → new ≡ middle → Keeps old new
+keeps_same old middle new keeps same = rw same keeps
+
+-- one call more that changes nothing, where it fails
+pub kept_same : {A E : Type 0} (answer : Result A E) (old middle new : List ℕ) → Keeps old middle → OnErr answer (new ≡ middle)
+    → OnErr answer (Keeps old new)
+kept_same (Ok x) old middle new keeps same = tt
+kept_same (Err e) old middle new keeps same = rw same keeps
 
 -- one call more that keeps what stands there, where it fails
 pub kept_behind : {A E : Type 0} (answer : Result A E) (old middle new : List ℕ) → Keeps old middle → OnErr answer (Keeps middle new)

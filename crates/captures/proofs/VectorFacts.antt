@@ -95,3 +95,64 @@ never_skipped capture.Skipped expected = λ h. cc
 never_skipped capture.Malformed expected = λ h. cc
 never_skipped capture.TooLong expected = λ h. cc
 never_skipped (capture.Frame octets) expected = λ h. cc
+
+-- a line that isn't skipped, by its digits and by what follows the arrow
+pub at_digits : (line digits expected : List ℕ) → is_skipped line ≡ false → digits ≡ before_space line
+    → behind_arrow (from_space line) ≡ Some expected → vector_of line ≡ vector_by (capture_of digits) expected
+at_digits line digits expected front is some = rw is (at_arrow line expected front some)
+
+pub at_frame : (line digits expected octets : List ℕ) → is_skipped line ≡ false → digits ≡ before_space line
+    → behind_arrow (from_space line) ≡ Some expected → capture_of digits ≡ capture.Frame octets → vector_of line ≡ Expects octets expected
+at_frame line digits expected octets front is some found =
+    at_digits line digits expected front is some ∙ ap (λ (t : Capture). vector_by t expected) found
+
+pub at_no_frame : (line digits expected : List ℕ) → is_skipped line ≡ false → digits ≡ before_space line
+    → behind_arrow (from_space line) ≡ Some expected → capture_of digits ≡ capture.Skipped → vector_of line ≡ Malformed
+at_no_frame line digits expected front is some found =
+    at_digits line digits expected front is some ∙ ap (λ (t : Capture). vector_by t expected) found
+
+pub at_any : (line digits expected : List ℕ) → is_skipped line ≡ false → digits ≡ before_space line
+    → behind_arrow (from_space line) ≡ Some expected → vector_of line ≢ Skipped
+at_any line digits expected front is some =
+    rw (at_digits line digits expected front is some) (never_skipped (capture_of digits) expected)
+
+-- what an answer tells of a malformed line
+pub malformed_skipped : (found : Vector) → found ≡ Malformed → found ≢ Skipped
+malformed_skipped found e = λ h. cc
+
+pub malformed_syntax : {A : Type 0} (answer : Result A LineRefusal) (found : Vector) → answer ≡ Err Syntax → found ≡ Malformed
+    → (answer ≡ Err Syntax) ↔ (found ≡ Malformed)
+malformed_syntax answer found is e = (λ h. e, λ h. is)
+
+pub malformed_count : {A : Type 0} (answer : Result A LineRefusal) (found : Vector) → answer ≡ Err Syntax → found ≡ Malformed
+    → (answer ≡ Err Count) ↔ (found ≡ TooLong)
+malformed_count answer found is e = (λ h. cc, λ h. cc)
+
+-- what an answer tells of a vector
+pub read_syntax : {A : Type 0} (answer : Result A LineRefusal) (read : A) (found : Vector) (octets expected : List ℕ) → answer ≡ Ok read
+    → found ≡ Expects octets expected → (answer ≡ Err Syntax) ↔ (found ≡ Malformed)
+read_syntax answer read found octets expected is e = (λ h. cc, λ h. cc)
+
+pub read_count : {A : Type 0} (answer : Result A LineRefusal) (read : A) (found : Vector) (octets expected : List ℕ) → answer ≡ Ok read
+    → found ≡ Expects octets expected → (answer ≡ Err Count) ↔ (found ≡ TooLong)
+read_count answer read found octets expected is e = (λ h. cc, λ h. cc)
+
+pub skipped_syntax : {A : Type 0} (answer : Result A LineRefusal) (read : A) (found : Vector) → answer ≡ Ok read → found ≡ Skipped
+    → (answer ≡ Err Syntax) ↔ (found ≡ Malformed)
+skipped_syntax answer read found is e = (λ h. cc, λ h. cc)
+
+pub skipped_count : {A : Type 0} (answer : Result A LineRefusal) (read : A) (found : Vector) → answer ≡ Ok read → found ≡ Skipped
+    → (answer ≡ Err Count) ↔ (found ≡ TooLong)
+skipped_count answer read found is e = (λ h. cc, λ h. cc)
+
+pub line_syntax : {A : Type 0} (r : Result Bool LineRefusal) (answer : Result A LineRefusal) (found : Capture) (whole : Vector)
+    (refusal : LineRefusal) (expected : List ℕ) → whole ≡ vector_by found expected → r ≡ Err refusal → answer ≡ Err refusal
+    → (r ≡ Ok false) ↔ (found ≡ capture.Skipped) → (r ≡ Err Syntax) ↔ (found ≡ capture.Malformed)
+    → (answer ≡ Err Syntax) ↔ (whole ≡ Malformed)
+line_syntax r answer found whole refusal expected e is same skip syntax =
+    rw e (refused_syntax r answer found refusal expected is same skip syntax)
+
+pub line_count : {A : Type 0} (r : Result Bool LineRefusal) (answer : Result A LineRefusal) (found : Capture) (whole : Vector)
+    (refusal : LineRefusal) (expected : List ℕ) → whole ≡ vector_by found expected → r ≡ Err refusal → answer ≡ Err refusal
+    → (r ≡ Err Count) ↔ (found ≡ capture.TooLong) → (answer ≡ Err Count) ↔ (whole ≡ TooLong)
+line_count r answer found whole refusal expected e is same count = rw e (refused_count r answer found refusal expected is same count)

@@ -1,5 +1,5 @@
 -- One effect after another.
-use Rattle.std.proofs.Common.{◌≡◌, refl, sym, subst, ℕ, Bool, true, false, List, Option, None}
+use Rattle.std.proofs.Common.{◌≡◌, refl, sym, subst, ℕ, Bool, true, false, List, [], ◌∷◌, ◌++◌, Option, None}
 use Rattle.std.specs.Prelude.{if◌then◌else◌}
 use Rattle.std.specs.List.{list_any}
 use Rattle.std.proofs.lemmas.List.{append-nil}
@@ -10,14 +10,19 @@ use Rattle.clnp_machine.specs.EsisTables.declared.fact.TableKind.TheVariants.{Is
 use Rattle.clnp_machine.specs.ClnpPlan.declared.config.Role.TheVariants.{Host}
 use Rattle.clnp_machine.specs.ClnpPlan.declared.output.Output.{Output}
 use Rattle.clnp_machine.specs.Esis.{answers_new, esis_heard, follows, hears, tells_new, tells_of_itself}
-use Rattle.clnp_machine.specs.Given.{Appends}
+use Rattle.clnp_machine.specs.Given.{Appends, Gives}
 use Rattle.clnp_machine.specs.System as machine
 use Rattle.clnp_machine.specs.System.{Effect, SystemState, idles, then_does}
 use Rattle.esis_entity.specs.Does.{Does, Hears}
 use Rattle.esis_entity.specs.Stands.{Stands}
 use Rattle.esis_entity.specs.State.{EsisState}
 pub use Rattle.clnp_machine.proofs.Answering.{answers_itself, told_after}
+use Rattle.clnp_machine.proofs.Given.{appends_one}
 pub use Rattle.clnp_machine.proofs.Given.{appends_both, appends_none}
+
+pub appends_pushed : (moment : ℕ) (before mid after : List Output) (output : Output) (other : machine.Output) → mid ≡ before → after ≡ mid ++ output ∷ []
+    → Gives moment None output other → Appends moment None before after (other ∷ [])
+appends_pushed moment before mid after output other reserved pushed gives = appends_one moment None before after output other (rw (sym reserved) pushed) gives
 
 pub does_then : (moment : ℕ) (middle entity : EsisState) (before mid after : List Output) (effect : Effect) (next : SystemState → Effect)
     → Does moment middle before mid effect → Does moment entity mid after (next effect.after) → Does moment entity before after (then_does effect next)

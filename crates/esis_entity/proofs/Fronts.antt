@@ -1,5 +1,5 @@
 -- What stays in front of a list to which more is appended.
-use Rattle.std.proofs.Common.{◌≡◌, refl, ap, List, [], ◌∷◌, length, take}
+use Rattle.std.proofs.Common.{◌≡◌, refl, ap, List, [], ◌∷◌, ◌++◌, length, take}
 use Rattle.clnp_machine.specs.ClnpPlan.declared.output.Output.{Output}
 use Rattle.esis_entity.specs.Does.{StaysInFront}
 
@@ -16,3 +16,13 @@ front_more (x ∷ before) (y ∷ mid) (z ∷ after) first second =
     let there : take (length mid) after ≡ mid = cc in
     let rest : take (length before) after ≡ before = front_more before mid after here there in
     cc
+
+pub front_append : (list others : List Output) → StaysInFront list (list ++ others)
+front_append [] others = refl
+front_append (first ∷ list) others = ap (λ (rest : List Output). first ∷ rest) (front_append list others)
+
+pub front_one : (before mid after : List Output) (output : Output) → mid ≡ before → after ≡ mid ++ output ∷ [] → StaysInFront before after
+front_one before mid after output same appended = rw (appended, same) (front_append before (output ∷ []))
+
+pub front_same : (before after : List Output) → after ≡ before → StaysInFront before after
+front_same before after same = rw same (front_none before)

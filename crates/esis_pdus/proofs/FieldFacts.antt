@@ -1,5 +1,5 @@
 -- Fields and lists of addresses, read where they were written, and written again from what is read.
-use Rattle.std.proofs.Common.{◌≡◌, ◌≢◌, ◌∙◌, refl, sym, ap, subst, ℕ, zero, suc, ◌+◌, ◌-◌, ◌<◌, ◌≤◌, ◌&&◌, Bool, true, false, List, [], ◌∷◌, ◌++◌, length, take, drop, get_or, arith, append_assoc, length-append, take-append-drop}
+use Rattle.std.proofs.Common.{◌≡◌, ◌≢◌, ◌∙◌, refl, sym, ap, subst, ℕ, zero, suc, ◌+◌, ◌-◌, ◌<◌, ◌≤◌, ◌==◌, ◌&&◌, Bool, true, false, List, [], ◌∷◌, ◌++◌, length, take, drop, get_or, arith, append_assoc, length-append, take-append-drop}
 use Rattle.std.specs.Prelude.{All, nat_le, Ok, Err}
 use Rattle.std.proofs.lemmas.Bool.{and_parts, and_from}
 use Rattle.std.proofs.lemmas.Bool.Decides.{nat_tests}
@@ -11,7 +11,7 @@ use Rattle.pdu_header.specs.Nsap.declared.fault.NsapFault.{NsapFault}
 use Rattle.hex.specs.Hex.{IsBytes}
 use Rattle.pdu_header.specs.ClnpOptions.Grammar.{joined}
 use Rattle.pdu_header.specs.Spelling.{counted}
-use Rattle.esis_pdus.specs.Fields.{is_field, field, behind, are_addresses, addresses, behind_addresses, address_list, behind_address_list}
+use Rattle.esis_pdus.specs.Fields.{is_field, is_address_list, field, behind, are_addresses, addresses, behind_addresses, address_list, behind_address_list}
 use Rattle.esis_pdus.specs.Filled.{IsFilled}
 use Rattle.pdu_header.proofs.ClnpBase.ListSteps.{bytes_of_drop, bytes_of_take}
 pub use Rattle.pdu_header.proofs.ClnpOptions.Titles.{joined-append, joined-nil}
@@ -317,3 +317,9 @@ all_more xs k a within e h is =
     let P : List (List ℕ) → Type 0 = λ t. All IsAddress t in
     let Q : List ℕ → Type 0 = λ b. IsAddress b in
     subst P (sym (take_more xs k a within)) (All-append IsAddress (take k xs) (get_or xs k a ∷ []) h (All-cons IsAddress (get_or xs k a) [] (subst Q e is) (All-nil IsAddress)))
+
+-- a list is judged by its addresses, where its number is there
+pub list_judged : (part all : List ℕ) (good : Bool) → (length part == 0) ≡ false → all ≡ drop 1 part → are_addresses (octet part 1) all ≡ good → is_address_list part ≡ good
+list_judged part all good some e h =
+    let number : nat_le 1 (length part) ≡ true = grind (arith, nat_tests) in
+    ap (λ b. b && are_addresses (octet part 1) (drop 1 part)) number ∙ ap (λ (t : List ℕ). are_addresses (octet part 1) t) (sym e) ∙ h

@@ -11,3 +11,4 @@ pub mod Bodies
 pub mod Frames
 pub mod Decoded
 pub mod Made
+pub mod Judged

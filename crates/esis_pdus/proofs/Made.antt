@@ -104,15 +104,21 @@ ish_front hold title octets options a b c at at_a at_b at_c =
     ∙ ap (λ (t : List ℕ). t ++ options) (at_b ∙ ap (λ (t : List ℕ). t ++ counted octets) at_a ∙ ap (λ (t : List ℕ). fixed_part 0 4 hold ++ counted t) at)
     ∙ append_assoc (fixed_part 0 4 hold) (counted title) options
 
-pub rd_front : (hold : ℕ) (to via title x y a b c d : List ℕ) → x ≡ to → y ≡ via → a ≡ fixed_part 0 6 hold → b ≡ a ++ counted x → c ≡ b ++ counted y → d ≡ c ++ counted title
-    → d ≡ fixed_part 0 6 hold ++ ((counted to ++ (counted via ++ counted title)) ++ spelled [])
-rd_front hold to via title x y a b c d at_x at_y at_a at_b at_c at_d =
+pub rd_plain : (hold : ℕ) (to via title x y a b c d : List ℕ) → x ≡ to → y ≡ via → a ≡ fixed_part 0 6 hold → b ≡ a ++ counted x → c ≡ b ++ counted y → d ≡ c ++ counted title
+    → d ≡ fixed_part 0 6 hold ++ (counted to ++ (counted via ++ counted title))
+rd_plain hold to via title x y a b c d at_x at_y at_a at_b at_c at_d =
     let front = fixed_part 0 6 hold in
-    let all = counted to ++ (counted via ++ counted title) in
     let b_is : b ≡ front ++ counted to = at_b ∙ ap (λ (t : List ℕ). t ++ counted x) at_a ∙ ap (λ (t : List ℕ). front ++ counted t) at_x in
     let c_is : c ≡ (front ++ counted to) ++ counted via = at_c ∙ ap (λ (t : List ℕ). t ++ counted y) b_is ∙ ap (λ (t : List ℕ). (front ++ counted to) ++ counted t) at_y in
     at_d
     ∙ ap (λ (t : List ℕ). t ++ counted title) c_is
     ∙ append_assoc (front ++ counted to) (counted via) (counted title)
     ∙ append_assoc front (counted to) (counted via ++ counted title)
+
+pub rd_front : (hold : ℕ) (to via title x y a b c d : List ℕ) → x ≡ to → y ≡ via → a ≡ fixed_part 0 6 hold → b ≡ a ++ counted x → c ≡ b ++ counted y → d ≡ c ++ counted title
+    → d ≡ fixed_part 0 6 hold ++ ((counted to ++ (counted via ++ counted title)) ++ spelled [])
+rd_front hold to via title x y a b c d at_x at_y at_a at_b at_c at_d =
+    let front = fixed_part 0 6 hold in
+    let all = counted to ++ (counted via ++ counted title) in
+    rd_plain hold to via title x y a b c d at_x at_y at_a at_b at_c at_d
     ∙ ap (λ (t : List ℕ). front ++ t) (sym (append-nil all) ∙ ap (λ (t : List ℕ). all ++ t) (sym spelled-nil))

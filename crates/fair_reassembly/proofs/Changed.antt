@@ -4,7 +4,7 @@ use Rattle.std.specs.Prelude.{Some, slice_get, slice_set}
 use Rattle.std.proofs.lemmas.Option.{same_Some, slice_get_read, slice_get_within}
 use Rattle.pdu_header.proofs.ClnpBase.Lists.{slice_get-set, slice_set-same}
 use Rattle.reassembly.specs.State.{TableState}
-use Rattle.fair_reassembly.specs.Tables.{ChangesTable, FairState, with_table}
+use Rattle.fair_reassembly.specs.Tables.{At, ChangesTable, FairState, IsAt, with_table}
 
 pub there : (tables : List TableState) (place : ℕ) (table : TableState) → place < length tables → table ≡ get_or tables place table
     → slice_get tables place ≡ Some table
@@ -26,6 +26,25 @@ module _ (place : ℕ) (sources : List (List ℕ)) (tables : List TableState) (b
         changes = changes;
         rest = refl;
       })
+
+-- what is so of the table at a place, where the tables stand inside of a state
+module _ (place : ℕ) (sources : List (List ℕ)) (tables : List TableState) (state : FairState)
+    (view_is : record { sources = sources; tables = tables } ≡ state) where
+  pub within_tables : place < length state.tables → place < length tables
+  within_tables within = subst (λ (s : FairState). place < length s.tables) (sym view_is) within
+
+  pub stood_at : (table : TableState) → place < length state.tables → table ≡ get_or tables place table → slice_get state.tables place ≡ Some table
+  stood_at table within read =
+      subst (λ (s : FairState). slice_get s.tables place ≡ Some table) view_is (there tables place table (within_tables within) read)
+
+  pub is_so : (table : TableState) (Holds : TableState → Type 0) → (at : IsAt state place Holds) → table ≡ get_or tables place table → Holds table
+  is_so table Holds at read =
+      let stood = stood_at table (slice_get_within state.tables place at.table at.stands_at) read in
+      subst Holds (sym (same_Some table at.table (sym stood ∙ at.stands_at))) at.holds
+
+  pub so_there : (table : TableState) (Holds : TableState → Type 0) → place < length state.tables → table ≡ get_or tables place table → Holds table
+      → At state place Holds
+  so_there table Holds within read holds = λ other at. subst Holds (same_Some table other (sym (stood_at table within read) ∙ at)) holds
 
 -- one change behind another of the table at the same place
 module _ (place : ℕ) (Changes Then Both : TableState → TableState → Type 0) where

@@ -1,9 +1,10 @@
 -- A look at a link in memory that sees a frame.
-use Rattle.std.proofs.Common.{◌≡◌, ℕ, zero, suc, ◌+◌, ◌<◌, min, List, [], ◌∷◌, ◌++◌, length, map, take, drop, get_or, Some, refl, sym, ap, ◌∙◌, arith, append-nil, inl, inr}
+use Rattle.std.proofs.Common.{◌≡◌, ℕ, zero, suc, ◌+◌, ◌<◌, ◌≤◌, min, List, [], ◌∷◌, ◌++◌, length, map, take, drop, get_or, Some, refl, sym, ap, ◌∙◌, arith, append-nil, inl, inr}
 use Rattle.std.proofs.lemmas.Bool.{cases_lt}
-use Rattle.std.proofs.lemmas.List.{drop_more, length-take-le, map-append, take_all, take_more}
-use Rattle.link_board.specs.Links.{Grows}
-use Rattle.link_board.specs.Memory.{frame_of, look_at, told_looks}
+use Rattle.std.proofs.lemmas.List.{drop_all, drop_more, length-take-le, map-append, take_all, take_more}
+use Rattle.nsap.specs.ClnpBase.Streams.{count_up}
+use Rattle.link_board.specs.Links.{CameFrame, Grows}
+use Rattle.link_board.specs.Memory.{Traffic, after_look, frame_of, look_at, told_looks}
 use Rattle.link_board.specs.declared.memory.MemFrame.{MemFrame}
 use Rattle.link_board.proofs.Sending.{take_front}
 
@@ -23,6 +24,36 @@ laid octets copied buf len l e =
 pub next_frame : (frames : List MemFrame) (at : ℕ) (frame : MemFrame) → frame ≡ get_or frames at frame → at < length frames
     → look_at (map frame_of (drop at frames)) ≡ Some (frame_of frame)
 next_frame frames at frame e h = rw (drop_more frames at frame h, ← e) refl
+
+pub left_more : (frames : List MemFrame) (at : ℕ) (frame : MemFrame) → frame ≡ get_or frames at frame → at < length frames
+    → map frame_of (drop at frames) ≡ frame_of frame ∷ map frame_of (drop (at + 1) frames)
+left_more frames at frame e h = rw (drop_more frames at frame h, ← e) refl
+
+pub came_more : (frames : List MemFrame) (at : ℕ) (frame : MemFrame) → frame ≡ get_or frames at frame → at < length frames
+    → map frame_of (take (at + 1) frames) ≡ map frame_of (take at frames) ++ frame_of frame ∷ []
+came_more frames at frame e h = rw (take_more frames at frame h, ← e) (simp map-append)
+
+-- no frame is still to come
+pub none_left : (frames : List MemFrame) (at : ℕ) → length frames ≤ at → map frame_of (drop at frames) ≡ []
+none_left frames at h = rw (drop_all at frames h) refl
+
+-- what is kept after a look
+pub looked_empty : (before told : Traffic) (calls empties : ℕ) → before ≡ told → calls ≡ count_up before.calls
+    → empties ≡ count_up before.empties → before.left ≡ [] → record before { calls = calls; empties = empties } ≡ after_look told told.left
+looked_empty before told calls empties v e f g =
+    ap (λ (n : ℕ). record before { calls = n; empties = empties }) e
+    ∙ ap (λ (n : ℕ). record before { calls = count_up before.calls; empties = n }) f
+    ∙ sym (ap (after_look before) g)
+    ∙ ap (λ (t : Traffic). after_look t t.left) v
+
+pub looked_one : (before told : Traffic) (calls : ℕ) (frame : CameFrame) (left came : List CameFrame) → before ≡ told
+    → calls ≡ count_up before.calls → before.left ≡ frame ∷ left → came ≡ before.came ++ frame ∷ []
+    → record before { calls = calls; left = left; came = came } ≡ after_look told told.left
+looked_one before told calls frame left came v e f g =
+    ap (λ (n : ℕ). record before { calls = n; left = left; came = came }) e
+    ∙ ap (λ (c : List CameFrame). record before { calls = count_up before.calls; left = left; came = c }) g
+    ∙ sym (ap (after_look before) f)
+    ∙ ap (λ (t : Traffic). after_look t t.left) v
 
 -- it is the next of the looks that are told
 pub looks_more : (frames : List MemFrame) (at empties : ℕ) (frame : MemFrame) → frame ≡ get_or frames at frame → at < length frames

@@ -1,10 +1,11 @@
 -- A text and its parts.
-use Rattle.std.proofs.Common.{◌≡◌, ℕ, ◌+◌, ◌<◌, ◌==◌, nat_lt, Bool, true, false, cond, List, [], ◌∷◌, length, take, drop, None, Some, sym, refl, arith}
+use Rattle.std.proofs.Common.{◌≡◌, ℕ, ◌+◌, ◌<◌, ◌==◌, nat_lt, Bool, true, false, cond, List, [], ◌∷◌, length, take, drop, Bor, Option, None, Some, sym, ap, ◌∙◌, refl, arith}
+use Rattle.std.specs.Prelude.{option_map}
 use Rattle.std.specs.List.{position, position_or_len, slice_split}
 use Rattle.std.proofs.lemmas.List.Splits.{slice_split_none, slice_split_first, length-slice_split}
 use Rattle.std.proofs.lemmas.List.Sums.{fails_before_first}
 use Rattle.nsap.proofs.ClnpBase.ListSteps.{first_past}
-use Rattle.link_words.specs.Words.{address_in, end_in, number_of, parts_at}
+use Rattle.link_words.specs.Words.{address_in, end_in, number_of, parts_at, parts_left}
 
 module _ (p : ℕ → Bool) where
   -- where nothing is cut, the text is the one part
@@ -29,6 +30,39 @@ first_of_parts mark text at e = cut_first (λ c. c == mark) text at e
 -- there is always a part
 pub some_part : (mark : ℕ) (text : List ℕ) → 0 < length (parts_at mark text)
 some_part mark text = omega (arith, length-slice_split (λ c. c == mark) text)
+
+-- the first part, and the text of the others behind a reference, if there are others
+next_parts : (mark : ℕ) (text first : List ℕ) (others : Option (Bor (List ℕ))) (rest : Bor (List ℕ))
+    → parts_at mark text ≡ first ∷ parts_left mark (option_map (λ o. o.now) others) → others ≡ Some rest → parts_at mark text ≡ first ∷ parts_at mark rest.now
+next_parts mark text first others rest e f = e ∙ ap (λ (o : Option (Bor (List ℕ))). first ∷ parts_left mark (option_map (λ t. t.now) o)) f
+
+last_part : (mark : ℕ) (text first : List ℕ) (others : Option (Bor (List ℕ)))
+    → parts_at mark text ≡ first ∷ parts_left mark (option_map (λ o. o.now) others) → others ≡ None → parts_at mark text ≡ first ∷ []
+last_part mark text first others e f = e ∙ ap (λ (o : Option (Bor (List ℕ))). first ∷ parts_left mark (option_map (λ t. t.now) o)) f
+
+pub two_parts : (mark : ℕ) (text a b : List ℕ) (of_a of_b : Option (Bor (List ℕ))) (rest : Bor (List ℕ))
+    → parts_at mark text ≡ a ∷ parts_left mark (option_map (λ o. o.now) of_a) → of_a ≡ Some rest
+    → parts_at mark rest.now ≡ b ∷ parts_left mark (option_map (λ o. o.now) of_b) → of_b ≡ None
+    → parts_at mark text ≡ a ∷ b ∷ []
+two_parts mark text a b of_a of_b rest e f g h =
+    next_parts mark text a of_a rest e f ∙ ap (λ (others : List (List ℕ)). a ∷ others) (last_part mark rest.now b of_b g h)
+
+pub one_more : (mark : ℕ) (text a : List ℕ) (of_a : Option (Bor (List ℕ))) (rest : Bor (List ℕ)) (others : List (List ℕ))
+    → parts_at mark text ≡ a ∷ parts_left mark (option_map (λ o. o.now) of_a) → of_a ≡ Some rest → parts_at mark rest.now ≡ others
+    → parts_at mark text ≡ a ∷ others
+one_more mark text a of_a rest others e f g = next_parts mark text a of_a rest e f ∙ ap (λ (more : List (List ℕ)). a ∷ more) g
+
+-- an address and a port
+pub no_address : (first second : List ℕ) → address_in (parts_at 46 first) ≡ None → end_in (first ∷ second ∷ []) ≡ None
+no_address first second e = rw e refl
+
+pub no_port : (first second address : List ℕ) → address_in (parts_at 46 first) ≡ Some address → None ≡ number_of 1 65535 second
+    → end_in (first ∷ second ∷ []) ≡ None
+no_port first second address e f = rw (e, ← f) refl
+
+pub both : (first second address : List ℕ) (port : ℕ) → address_in (parts_at 46 first) ≡ Some address → Some port ≡ number_of 1 65535 second
+    → end_in (first ∷ second ∷ []) ≡ Some (record { address = address; port = port })
+both first second address port e f = rw (e, ← f) refl
 
 -- five parts are no address
 five : (a b c d : List ℕ) (others : List (List ℕ)) → 0 < length others → address_in (a ∷ b ∷ c ∷ d ∷ others) ≡ None

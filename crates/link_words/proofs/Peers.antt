@@ -1,6 +1,6 @@
 -- The peers of a link word, read one after the other.
-use Rattle.std.proofs.Common.{◌≡◌, ℕ, ◌+◌, ◌≤◌, nat_le, true, false, List, [], ◌∷◌, ◌++◌, length, drop, Bor, length-append, append_assoc, append-nil, Option, None, Some, refl, sym, ap, ◌∙◌, arith}
-use Rattle.std.specs.Prelude.{codes, nat_eq, option_map}
+use Rattle.std.proofs.Common.{◌≡◌, ℕ, ◌+◌, ◌<◌, ◌≤◌, nat_le, true, false, List, [], ◌∷◌, ◌++◌, length, drop, Bor, length-append, append_assoc, append-nil, Option, None, Some, refl, sym, ap, ◌∙◌, arith}
+use Rattle.std.specs.Prelude.{codes, nat_eq, option_map, IfSome}
 use Rattle.std.specs.List.{starts_with}
 use Rattle.std.proofs.lemmas.Bool.Decides.{nat_tests}
 use Rattle.link_words.specs.Ends.{Ends}
@@ -85,11 +85,35 @@ pub too_many : (first : List ℕ) (others : List (List ℕ)) (read : List Peer) 
 too_many first others read left text part more peer e f g h many =
     too_long first others read part more peer (next_part (each peer_of others) read left text part more e f g) h many
 
+pub no_peer : (first : List ℕ) (others : List (List ℕ)) (read : List Peer) (left : Option (List ℕ)) (text part : List ℕ) (more : List (List ℕ))
+    → each peer_of others ≡ behind read (parts_left 44 left) → left ≡ Some text → parts_at 44 text ≡ part ∷ more → peer_of part ≡ None
+    → ends_in (first ∷ others) ≡ None
+no_peer first others read left text part more e f g h =
+    no_peers first others (next_part (each peer_of others) read left text part more e f g ∙ behind_none read part more h)
+
+-- before the first peer
+pub none_yet : (read : List Peer) (left : List (List ℕ)) → read ≡ [] → each peer_of left ≡ behind read left
+none_yet read left e = rw e (by (each peer_of left))
+  where
+    by : (o : Option (List Peer)) → o ≡ option_map (λ more. [] ++ more) o
+    by None = refl
+    by (Some peers) = refl
+
+-- less text is left
+pub less_left : (left others : Option (Bor (List ℕ))) (text : Bor (List ℕ)) → left ≡ Some text
+    → IfSome others (λ o. length o.now < length text.now) → size_left (text_in others) < size_left (text_in left)
+less_left left None text e h = rw e (omega arith)
+less_left left (Some others) text e h = rw e (omega (arith, h))
+
 pub all_read : (whole : Option (List Peer)) (read : List Peer) (left : Option (List ℕ)) → whole ≡ behind read (parts_left 44 left) → left ≡ None
     → whole ≡ behind read []
 all_read whole read left e f = e ∙ ap (λ o. behind read (parts_left 44 o)) f
 
 -- ---- the word
+
+pub no_word : (word : List ℕ) → starts_with nat_eq word (codes "udp:") ≡ false → link_ends word ≡ None
+unfolding link_ends
+no_word word s = rw s refl
 
 pub word_read : (word text first : List ℕ) (others : List (List ℕ)) (read : Option Ends) → starts_with nat_eq word (codes "udp:") ≡ true
     → text ≡ drop 4 word → parts_at 44 text ≡ first ∷ others → ends_in (first ∷ others) ≡ read → link_ends word ≡ read

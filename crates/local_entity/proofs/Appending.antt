@@ -2,10 +2,12 @@
 use Rattle.std.proofs.Common.{◌≡◌, ◌∙◌, ap, List, [], ◌∷◌, ◌++◌, append_assoc}
 use Rattle.clnp_machine.specs.ClnpPlan.declared.note.Note.{Note}
 use Rattle.clnp_machine.specs.Local as locally
-use Rattle.clnp_machine.specs.Local.{Tells}
+use Rattle.clnp_machine.specs.Local.{Sends, Tells, sent_note}
+use Rattle.clnp_machine.specs.Unit.{DataUnit}
 use Rattle.local_entity.specs.declared.action.Action.{Action}
-use Rattle.local_entity.specs.declared.action.Action.TheVariants.{Note as Noted}
-use Rattle.local_entity.specs.Local.{Appends, DoAll}
+use Rattle.local_entity.specs.declared.action.Action.TheVariants.{Note as Noted, Send}
+use Rattle.local_entity.specs.declared.action.Made.{Made}
+use Rattle.local_entity.specs.Local.{Appends, DoAll, Does}
 
 pub do_all-append : (actions more : List Action) (others rest : List locally.Action) → DoAll actions others → DoAll more rest → DoAll (actions ++ more) (others ++ rest)
 do_all-append [] more [] rest here there = there
@@ -22,3 +24,10 @@ appends-more old mid new others rest here there = record {
 
 pub appends-note : (before after : List Action) (note told : Note) → after ≡ before ++ Noted note ∷ [] → note ≡ told → Appends before after (Tells told ∷ [])
 appends-note before after note told appended same = record { actions = Noted note ∷ []; appended = appended; do_all = (same, tt) }
+
+-- the note of a unit, and then the unit
+pub appends-made : (before mid after : List Action) (u : DataUnit) (note : Note) (made : Made) → mid ≡ before ++ Noted note ∷ []
+    → after ≡ mid ++ Send made ∷ [] → note ≡ sent_note u → Does (Send made) (Sends u) → Appends before after (Tells (sent_note u) ∷ Sends u ∷ [])
+appends-made before mid after u note made noted sent same does =
+    appends-more before mid after (Tells (sent_note u) ∷ []) (Sends u ∷ []) (appends-note before mid note (sent_note u) noted same)
+    (record { actions = Send made ∷ []; appended = sent; do_all = (does, tt) })

@@ -5,6 +5,7 @@ use Rattle.clnp_machine.specs.ClnpPlan.declared.ask.Ask.{Ask}
 use Rattle.clnp_machine.specs.ClnpPlan.declared.ask.SendRefusal.{SendRefusal}
 use Rattle.clnp_machine.specs.ClnpPlan.declared.ask.SendRefusal.TheVariants as send_refusal
 use Rattle.clnp_machine.specs.ClnpPlan.declared.note.Note.{Note}
+use Rattle.clnp_machine.specs.ClnpPlan.declared.note.Note.TheVariants as note
 use Rattle.clnp_machine.specs.ClnpOptions.Parameter.{Parameter}
 use Rattle.clnp_machine.specs.PduHeader.declared.kind.Kind.{Kind}
 use Rattle.clnp_machine.specs.PduHeader.declared.kind.Kind.TheVariants.{Dt, Er, Erq, Erp}
@@ -12,7 +13,7 @@ use Rattle.clnp_machine.specs.Unit.{DataUnit}
 use Rattle.clnp_machine.specs.System.{SystemState}
 use Rattle.clnp_machine.specs.Local.{echo_ask, hand_up, is_answer, is_replied, make, refusal, replies, takes_reply, tells, unit_of, unless_refused, without_answered}
 use Rattle.local_entity.specs.declared.pending.Request.{Request as Noted}
-use Rattle.local_entity.specs.declared.purpose.Purpose.TheVariants.{Request, Reply}
+use Rattle.local_entity.specs.declared.purpose.Purpose.TheVariants.{Data, Report, Request, Reply}
 use Rattle.local_entity.specs.State.{EntityState}
 use Rattle.local_entity.specs.Local.{AreRequests, IsWhy, Stands, refusal_note}
 use Rattle.local_entity.specs.Receipt.{purpose_of}
@@ -78,3 +79,19 @@ handed_reply s Dt source destination octets options is = absurd (cc)
 handed_reply s Er source destination octets options is = absurd (cc)
 handed_reply s Erq source destination octets options is = absurd (cc)
 handed_reply s Erp source destination octets options is = refl
+
+-- what is noted of one that is neither
+pub handed_data : (s : SystemState) (kind : Kind) (source destination octets : List ℕ) (options : List Parameter) → Data ≡ purpose_of kind options
+    → tells s (note.Got source destination octets) ≡ hand_up s kind source destination octets options
+handed_data s Dt source destination octets options is = refl
+handed_data s Er source destination octets options is = absurd (cc)
+handed_data s Erq source destination octets options is = absurd (cc)
+handed_data s Erp source destination octets options is = absurd (cc)
+
+pub handed_report : (s : SystemState) (kind : Kind) (source destination octets : List ℕ) (options : List Parameter) (reason place : ℕ)
+    → Report reason place ≡ purpose_of kind options
+    → tells s (note.Report source destination reason place octets) ≡ hand_up s kind source destination octets options
+handed_report s Dt source destination octets options reason place is = absurd (cc)
+handed_report s Er source destination octets options reason place is = cc
+handed_report s Erq source destination octets options reason place is = absurd (cc)
+handed_report s Erp source destination octets options reason place is = absurd (cc)

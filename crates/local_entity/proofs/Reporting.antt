@@ -1,5 +1,5 @@
 -- The error report of a frame's discard.
-use Rattle.std.proofs.Common.{◌≡◌, sym, ap, refl, subst, ℕ, List, [], ◌∷◌, ◌++◌}
+use Rattle.std.proofs.Common.{◌≡◌, ◌∙◌, sym, ap, refl, subst, ℕ, List, [], ◌∷◌, ◌++◌}
 use Rattle.clnp_machine.specs.Content.{Content, frame_of}
 use Rattle.clnp_machine.specs.Unit.{DataUnit}
 use Rattle.clnp_machine.specs.System.{SystemState, next_number}
@@ -37,3 +37,19 @@ module _ (local : EntityState) (s : SystemState) (content : Content) (frame : Li
         (let u = report_unit s report.own frame reason place in
         appends-more before mid after (Tells (note.Discard reason place) ∷ []) (Tells (sent_note u) ∷ Sends u ∷ [])
         (appends-note before mid _ _ noted refl) (sent u report.is_draft number)))
+
+    pub stands_told : Stands (record local { count = n }) (reports s (frame_of content) reason place).after
+    stands_told =
+        subst (λ (d : Deed). Stands (record local { count = n }) d.after)
+        (sym (ap (λ (f : List ℕ). reports s f reason place) same ∙ report.made))
+        record {
+          configuration = stands.configuration;
+          limits = stands.limits;
+          count = number;
+          identifiers = stands.identifiers;
+          buffers = stands.buffers;
+          table = stands.table;
+          shown = stands.shown;
+          packets = stands.packets;
+          pending = stands.pending;
+        }

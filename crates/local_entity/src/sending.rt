@@ -85,7 +85,6 @@ fn send_on(
 /// # Errors
 ///
 /// `NoMemory`: `out` is then as it was.
-#[tactic(auto, using(crate::proofs::Sent::seen_of_part))]
 pub fn give_pieces(
     alloc: Global,
     cuts: &mut Cuts,

@@ -1,7 +1,7 @@
 -- Frames: an OSI PDU is seen where the octets are laid out so.
-use Rattle.std.proofs.Common.{◌≡◌, ℕ, ◌+◌, ◌-◌, ◌≤◌, Bool, true, false, List, [], ◌∷◌, ◌++◌, length, take, drop, get_or, refl, sym, ap, ◌∙◌, subst, arith, length-append, length-drop, length-take-le, take-append-drop}
+use Rattle.std.proofs.Common.{◌≡◌, ℕ, ◌+◌, ◌-◌, ◌<◌, ◌≤◌, Bool, true, false, List, [], ◌∷◌, ◌++◌, length, take, drop, get_or, refl, sym, ap, ◌∙◌, subst, arith, length-append, length-drop, length-take-le, take-append-drop}
 use Rattle.std.specs.Prelude.{◌==◌, nat_le, nat_lt, if◌then◌else◌}
-use Rattle.std.proofs.lemmas.Bool.{and_parts, le-ltb, leb-true, ltb-false}
+use Rattle.std.proofs.lemmas.Bool.{and_parts, le-ltb, leb-true, lt-ltb, ltb-false}
 use Rattle.std.proofs.lemmas.Bool.Decides.{nat_tests}
 use Rattle.std.proofs.lemmas.List.{append_assoc, drop-drop, drop_at, drop_more, take_at, get_or-drop}
 use Rattle.hex.specs.Hex.{IsBytes}
@@ -52,6 +52,22 @@ tests_of octets e =
       second = is_equal (get_or octets 15 0) 254 five.0;
       third = is_equal (get_or octets 16 0) 3 five.1;
     }
+
+pub seen_other : (octets : List ℕ) → is_osi octets ≡ false → OtherFrame ≡ seen_in octets
+unfolding seen_in
+seen_other octets is = rw is refl
+
+pub seen_cut : (octets : List ℕ) (told : ℕ) → is_osi octets ≡ true → told ≡ told_length octets → length octets < 14 + told
+    → CutFrame ≡ seen_in octets
+unfolding seen_in
+seen_cut octets told is told_is cut = rw (is, lt-ltb (length octets) (14 + told_length octets) (omega arith)) refl
+
+pub seen_osi : (octets to from : List ℕ) (told : ℕ) → is_osi octets ≡ true → told ≡ told_length octets → 14 + told ≤ length octets
+    → to ≡ take 6 octets → from ≡ take 6 (drop 6 octets) → OsiFrame to from (take (14 + told - 17) (drop 17 octets)) ≡ seen_in octets
+unfolding seen_in
+seen_osi octets to from told is told_is entire to_is from_is =
+    let count : told_length octets - 3 ≡ 14 + told - 17 = omega arith in
+    rw (is, le-ltb (length octets) (14 + told_length octets) (omega arith), count, to_is, from_is) refl
 
 -- ---- the layout of octets that pass
 

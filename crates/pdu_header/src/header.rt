@@ -116,7 +116,6 @@ impl Header {
     }
 
     /// Whether data of the same unit follows behind this segment's (section 7.2.6.2).
-    #[tactic(auto, using(crate::proofs::Told::tells_more))]
     pub fn more(&self) -> bool
         ensures { (v : PduValue) → SpellsHeader v self.now → result ≡ v.more }
     {

@@ -2,6 +2,7 @@ pub use Rattle.clnp_plan.proofs.ClnpBase
 pub mod Readings
 pub mod Stepping
 pub mod Lists
+pub mod Found
 pub mod Clocks
 pub mod Events
 pub mod Behind

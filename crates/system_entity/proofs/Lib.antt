@@ -9,3 +9,4 @@ pub mod Refused
 pub mod Both
 pub mod Kept
 pub mod Changing
+pub mod Working

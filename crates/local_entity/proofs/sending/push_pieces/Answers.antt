@@ -1,8 +1,8 @@
 -- One piece more is given out.
-use Rattle.std.proofs.Common.{◌≡◌, ◌∙◌, ◌++◌, [], ◌∷◌, List, ap, append_assoc, length, refl, rules, subst, sym, take}
+use Rattle.std.proofs.Common.{◌≡◌, ◌∙◌, ◌++◌, [], ◌∷◌, List, ap, append_assoc, length, refl, subst, sym, take}
 use Rattle.std.proofs.lemmas.List.{take_at}
+use Rattle.std.proofs.lemmas.Result.{err_from_is_err_and}
 use Rattle.std.specs.List.{AllByRecursion}
-use Rattle.clnp_machine.specs.ClnpViews.Extent.{seen}
 use Rattle.clnp_machine.specs.Segmenter.Left.{IsCutOf}
 use Rattle.clnp_machine.specs.Segmenter.declared.cuts.Cut.{Cut}
 use Rattle.local_entity.proofs.Pieces.{given_more}
@@ -27,4 +27,14 @@ returns-in_err-push_piece-clause-front c =
     let kept : take (length before) c.push_piece.new.out.items ≡ before =
     ap (λ outputs. take (length before) outputs) (c.in_err-push_piece.ensures.none ∙ c.loop-cut.invariant.given)
     ∙ take_at before _ (length before) refl in
-    search rules
+    let refused = err_from_is_err_and c.from_residual.result c.from_residual.ensures.1 in
+    rw (refused.1) kept
+
+pub push_piece-requires : goal.push_piece-requires
+push_piece-requires c =
+    (subst (λ (cuts : List Cut). AllByRecursion (IsCutOf c.args.body.now.len) cuts) c.in-Some.ensures.steps c.loop-cut.invariant.left).0.within
+
+pub returns-in_err-push_piece-clause-given : goal.returns-in_err-push_piece-clause-given
+returns-in_err-push_piece-clause-given c =
+    let refused = err_from_is_err_and c.from_residual.result c.from_residual.ensures.1 in
+    rw (refused.1) tt

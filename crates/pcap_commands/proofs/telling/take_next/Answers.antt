@@ -20,3 +20,24 @@ returns-in-Err-clause-comes_to g c = λ left before h.
     (g.K.Sink.written c.finish.new.sink) h.taken c.finish.result h.underway
     (Consumes-kept left (g.S.Source.left c.args.source.now) (g.S.Source.left c.read.new.self) h.taken h.consumed c.in-Err.ensures.octets)
     few c.finish.ensures.wrote
+
+pub returns-in-Ok-clause-later : goal.returns-in-Ok-clause-later
+returns-in-Ok-clause-later g c = (c.read.ensures.later, c.take_piece.ensures.later)
+
+pub returns-in-Ok-clause-size : goal.returns-in-Ok-clause-size
+returns-in-Ok-clause-size g c = c.take_piece.ensures.size
+
+pub returns-in-Ok-clause-counted : goal.returns-in-Ok-clause-counted
+returns-in-Ok-clause-counted g c = c.take_piece.ensures.counted
+
+pub returns-in-Ok-clause-form : goal.returns-in-Ok-clause-form
+returns-in-Ok-clause-form g c = c.take_piece.ensures.form
+
+pub returns-in-Ok-clause-write_fault : goal.returns-in-Ok-clause-write_fault
+returns-in-Ok-clause-write_fault g c = c.take_piece.ensures.write_fault
+
+pub returns-in-Ok-clause-read_fault : goal.returns-in-Ok-clause-read_fault
+returns-in-Ok-clause-read_fault g c = λ h. absurd (c.take_piece.ensures.read_fault h)
+
+pub returns-in-Err-clause-write_fault : goal.returns-in-Err-clause-write_fault
+returns-in-Err-clause-write_fault g c = λ h. c.finish.ensures.failed (λ e. cc) (cc)

@@ -1,6 +1,6 @@
-use Rattle.std.proofs.Common.{◌≡◌, ◌++◌, length, take, arith}
+use Rattle.std.proofs.Common.{◌≡◌, ◌<◌, ◌++◌, length, take, arith, length-take-le}
 use Rattle.std.proofs.lemmas.Bool.Decides.{nat_tests}
-use Rattle.pcap_commands.proofs.Answering.{limited_piece, piece_beyond, piece_none, stopped}
+use Rattle.pcap_commands.proofs.Answering.{limited_piece, piece_beyond, piece_goes_on, piece_none, stopped}
 use Rattle.pcap_commands.proofs.telling.take_piece.Goals as goal
 
 pub returns-then-is_empty-clause-comes_to : goal.returns-then-is_empty-clause-comes_to
@@ -23,3 +23,16 @@ returns-else-piece-room-clause-comes_to g c = λ taken left_before left_after be
     (g.K.Sink.written c.finish-in-Ok.new.sink) taken c.args.piece.now c.args.teller.now.size c.min-within.result c.finish-in-Ok.result
     (c.in-Ok.ensures.takes taken before w) consumed w.sized c.requires.few c.requires.size c.min-within.ensures c.if-piece-room.false
     c.in-Ok.ensures.form c.finish-in-Ok.ensures.wrote
+
+pub returns-then-piece-room-clause-comes_to : goal.returns-then-piece-room-clause-comes_to
+returns-then-piece-room-clause-comes_to g c = λ taken left_before left_after before w consumed at_end.
+    piece_goes_on c.take.new.self left_before left_after before (g.K.Sink.written c.take.new.sink) taken c.args.piece.now c.args.teller.now.size
+    c.min-within.result (c.in-Ok.ensures.takes taken before w) consumed c.if-piece-room.true c.min-within.ensures
+
+pub returns-then-piece-room-clause-size : goal.returns-then-piece-room-clause-size
+returns-then-piece-room-clause-size g c =
+    let some : 0 < length c.args.piece.now = grind (arith, nat_tests) in
+    let within = length-take-le c.min-within.result c.args.piece.now (omega (arith, c.min-within.ensures)) in (
+      omega (arith, c.in-Ok.ensures.size, within, some, c.min-within.ensures, c.if-piece-room.true),
+      omega (arith, c.in-Ok.ensures.size, within, c.min-within.ensures, c.requires.size),
+    )

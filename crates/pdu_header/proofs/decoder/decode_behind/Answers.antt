@@ -1,4 +1,4 @@
-use Rattle.std.proofs.Common.{◌∙◌, ◌++◌, ap, length, arith, rules, sym}
+use Rattle.std.proofs.Common.{◌∙◌, ◌++◌, ap, arith, length, refl, sym}
 use Rattle.pdu_header.specs.View.{pdu_value}
 use Rattle.pdu_header.proofs.Frames.{nothing_spelled, read_front, read_header}
 use Rattle.pdu_header.proofs.ShortHeaders.{header_there, octets_of_both, protocol_there, refusal_there, reportable_there, rest_there, value_there}
@@ -14,7 +14,7 @@ returns-in-Ok-clause-accepted c = (
 pub returns-in-Ok-clause-judged : goal.returns-in-Ok-clause-judged
 returns-in-Ok-clause-judged c =
     let stands = returns-in-Ok-clause-accepted c in
-    search rules
+    rw (stands.0, stands.1) refl
 
 pub returns-in-Ok-clause-found : goal.returns-in-Ok-clause-found
 returns-in-Ok-clause-found c =
@@ -40,12 +40,25 @@ returns-in-Ok-clause-spells c = record { pdu = (returns-in-Ok-clause-found c).sp
 pub returns-in-Ok-clause-size : goal.returns-in-Ok-clause-size
 returns-in-Ok-clause-size c = ap length (returns-in-Ok-clause-header c) ∙ length-header (pdu_value c.in-Ok.pdu)
 
+pub returns-in-Ok-clause-head : goal.returns-in-Ok-clause-head
+returns-in-Ok-clause-head c = c.in-Ok.ensures.head ∙ sym (header_there c.args.head.now c.args.behind.now c.requires)
+
+pub returns-in-Ok-clause-sum : goal.returns-in-Ok-clause-sum
+returns-in-Ok-clause-sum c = c.in-Ok.ensures.sum
+
+pub returns-in-Ok-clause-options : goal.returns-in-Ok-clause-options
+returns-in-Ok-clause-options c = c.in-Ok.ensures.options
+
 pub returns-in-Err-clause-judged : goal.returns-in-Err-clause-judged
 returns-in-Err-clause-judged c =
-    let protocol = protocol_there c.args.head.now c.args.behind.now c.requires in
     let broken = refusal_there c.args.head.now c.args.behind.now c.requires ∙ c.in-Err.ensures.judged in
-    let reported = reportable_there c.args.head.now c.args.behind.now c.requires in
-    search rules
+    rw (
+      protocol_there c.args.head.now c.args.behind.now c.requires,
+      broken,
+      reportable_there c.args.head.now c.args.behind.now c.requires,
+      c.is_some.ensures,
+      c.reportable_header.ensures.some,
+    ) refl
 
 pub returns-in-Err-clause-none : goal.returns-in-Err-clause-none
 returns-in-Err-clause-none c =

@@ -16,3 +16,15 @@ pub returns-clause-none : goal.returns-clause-none
 returns-clause-none c =
     subst (λ octets. OnErr c.decode_behind.result ((value : PduValue) (rest : List ℕ) → BeginsWith octets value rest → ⊥))
     c.parts.ensures.octets c.decode_behind.ensures.none
+
+pub returns-clause-judged : goal.returns-clause-judged
+returns-clause-judged c = rw (sym c.parts.ensures.octets) c.decode_behind.ensures.judged
+
+pub returns-clause-accepted : goal.returns-clause-accepted
+returns-clause-accepted c = rw (sym c.parts.ensures.octets) c.decode_behind.ensures.accepted
+
+pub returns-clause-found : goal.returns-clause-found
+returns-clause-found c = rw (sym c.parts.ensures.octets) c.decode_behind.ensures.found
+
+pub returns-clause-head : goal.returns-clause-head
+returns-clause-head c = rw (sym c.parts.ensures.octets) c.decode_behind.ensures.head

@@ -1,10 +1,26 @@
-use Rattle.std.proofs.Common.{◌∙◌, sym, ap, subst, refl, arith, List, [], ℕ, ◌++◌}
+use Rattle.std.proofs.Common.{◌∙◌, sym, ap, subst, refl, arith, length-append, List, [], ℕ, ◌++◌}
+use Rattle.std.specs.Prelude.{option_map}
 use Rattle.fletcher.specs.Checksum.{sealed}
 use Rattle.clnp_options.specs.Rules.{IsWellFormed}
-use Rattle.pdu_header.specs.Spelling.{counted}
+use Rattle.pdu_header.specs.Spelling.{counted, segmentation_octets}
 use Rattle.pdu_header.specs.Parts.{parts_value}
+use Rattle.pdu_header.specs.View.{part_value}
 use Rattle.pdu_header.proofs.Written.{pieces_join, pieces_length, options_spelled, header_if_sealed, header_if_unsealed}
 use Rattle.pdu_header.proofs.write.written.Goals as goal
+
+pub push_segmentation-requires : goal.push_segmentation-requires
+push_segmentation-requires c =
+    omega (
+      arith,
+      c.requires.len,
+      c.requires.few,
+      length-append c.push_counted-2.new.self (segmentation_octets (option_map part_value c.args.parts.now.seg)),
+      pieces_length (parts_value c.args.parts.now []) _ _ _ _ _ _ _ refl refl
+          c.new-cells.ensures c.push_fixed.ensures.octets
+          (c.push_counted.ensures ∙ ap (λ x. c.push_fixed.new.cells ++ counted x) c.as_bytes.ensures.octets)
+          (c.push_counted-2.ensures ∙ ap (λ x. c.push_counted.new.self ++ counted x) c.as_bytes-2.ensures.octets)
+          refl,
+    )
 
 pub push-requires : goal.push-requires
 push-requires c =

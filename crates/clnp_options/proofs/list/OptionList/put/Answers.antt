@@ -19,3 +19,7 @@ returns-clause-options c =
     let whole : c.push-3.new.self ≡ c.args.self.now ++ spelling option =
     rw (c.push-3.ensures, c.push-2.ensures, c.push.ensures, c.self.view_is) (put_behind c.args.code _ c.args.self.now c.args.front.now c.args.back.now refl) in
     rw whole (parameters-pushed c.args.self.now option before c.requires.well_formed)
+
+pub returns-clause-pushed : goal.returns-clause-pushed
+returns-clause-pushed c =
+    rw (c.push-3.ensures, c.push-2.ensures, c.push.ensures, c.self.view_is) (put_behind c.args.code _ c.args.self.now c.args.front.now c.args.back.now refl)

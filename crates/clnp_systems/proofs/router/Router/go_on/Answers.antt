@@ -1,6 +1,6 @@
 -- The pieces go on under their own headers, over the data in the frame, and then the redirect, if there is one.
-use Rattle.std.proofs.Common.{◌≡◌, ◌∙◌, sym, ap, subst, ℕ, true, List, ◌++◌, length, map, None, Some}
-use Rattle.std.proofs.lemmas.Result.{on_ok_weaker}
+use Rattle.std.proofs.Common.{◌≡◌, ◌∙◌, refl, sym, ap, subst, ℕ, true, List, ◌++◌, length, map, None, Some}
+use Rattle.std.proofs.lemmas.Result.{err_from_is_err_and, on_ok_weaker}
 use Rattle.clnp_machine.specs.ClnpViews.Extent.{Extent, part, seen, whole}
 use Rattle.clnp_machine.specs.Content.{Labelled}
 use Rattle.clnp_machine.specs.Given.{Appends}
@@ -75,3 +75,69 @@ returns-in_default-clause-outputs c = λ s p following effect h carriable has fr
     (sym given.outputs)
     (appends_both s.moment (Some (Labelled p following)) c.args.out.now.items c.pass_on.new.out.items c.redirect.new.out.items given.pieces
     (redirects s c.args.came.now p (options_behind s p.options) way) first second)
+
+pub returns-in-Err-clause-none : goal.returns-in-Err-clause-none
+returns-in-Err-clause-none c = c.discard.ensures.none
+
+pub returns-in-Err-clause-spent : goal.returns-in-Err-clause-spent
+returns-in-Err-clause-spent c = c.discard.ensures.spent
+
+pub returns-in-Err-clause-refused : goal.returns-in-Err-clause-refused
+returns-in-Err-clause-refused c spent = c.discard.ensures.refused (ap (λ (router : RouterState). router.entity.spent) c.self-in-Err.view_is ∙ spent)
+
+pub returns-in-Err-clause-moment : goal.returns-in-Err-clause-moment
+returns-in-Err-clause-moment c = c.discard.ensures.moment ∙ ap (λ (router : RouterState). router.entity.moment) c.self-in-Err.view_is
+
+pub returns-in-Err-clause-congested : goal.returns-in-Err-clause-congested
+returns-in-Err-clause-congested c = c.discard.ensures.congested ∙ ap (λ (router : RouterState). router.entity.congested) c.self-in-Err.view_is
+
+pub returns-in-Err-clause-config : goal.returns-in-Err-clause-config
+returns-in-Err-clause-config c = c.discard.ensures.config ∙ ap (λ (router : RouterState). router.entity.local.configuration) c.self-in-Err.view_is
+
+pub returns-in_default-clause-refused : goal.returns-in_default-clause-refused
+returns-in_default-clause-refused c spent = c.in_ok-pass_on-in-Ok.ensures.refused (ap (λ (router : RouterState). router.entity.spent) c.self.view_is ∙ spent)
+
+pub returns-in_default-clause-moment : goal.returns-in_default-clause-moment
+returns-in_default-clause-moment c = c.redirect.ensures.moment ∙ c.pass_on.ensures.moment ∙ ap (λ (router : RouterState). router.entity.moment) c.self.view_is
+
+pub returns-in_default-clause-congested : goal.returns-in_default-clause-congested
+returns-in_default-clause-congested c = c.redirect.ensures.congested ∙ c.pass_on.ensures.congested ∙ ap (λ (router : RouterState). router.entity.congested) c.self.view_is
+
+pub returns-in_default-clause-config : goal.returns-in_default-clause-config
+returns-in_default-clause-config c = c.redirect.ensures.config ∙ c.pass_on.ensures.config ∙ ap (λ (router : RouterState). router.entity.local.configuration) c.self.view_is
+
+pub returns-in_err-pass_on-in-Ok-clause-stands : goal.returns-in_err-pass_on-in-Ok-clause-stands
+returns-in_err-pass_on-in-Ok-clause-stands c = let refused = err_from_is_err_and c.from_residual.result c.from_residual.ensures.1 in rw (refused.1) tt
+
+pub returns-in_err-pass_on-in-Ok-clause-outputs : goal.returns-in_err-pass_on-in-Ok-clause-outputs
+returns-in_err-pass_on-in-Ok-clause-outputs c = let refused = err_from_is_err_and c.from_residual.result c.from_residual.ensures.1 in rw (refused.1) tt
+
+pub returns-in_err-pass_on-in-Ok-clause-none : goal.returns-in_err-pass_on-in-Ok-clause-none
+returns-in_err-pass_on-in-Ok-clause-none c = let refused = err_from_is_err_and c.from_residual.result c.from_residual.ensures.1 in rw (refused.1) c.in_err-pass_on-in-Ok.ensures.none
+
+pub returns-in_err-pass_on-in-Ok-clause-spent : goal.returns-in_err-pass_on-in-Ok-clause-spent
+returns-in_err-pass_on-in-Ok-clause-spent c = let refused = err_from_is_err_and c.from_residual.result c.from_residual.ensures.1 in rw (refused.1) c.in_err-pass_on-in-Ok.ensures.spent
+
+pub returns-in_err-pass_on-in-Ok-clause-refused : goal.returns-in_err-pass_on-in-Ok-clause-refused
+returns-in_err-pass_on-in-Ok-clause-refused c spent = let refused = err_from_is_err_and c.from_residual.result c.from_residual.ensures.1 in rw (refused.1) refl
+
+pub returns-in_err-pass_on-in-Ok-clause-moment : goal.returns-in_err-pass_on-in-Ok-clause-moment
+returns-in_err-pass_on-in-Ok-clause-moment c = c.pass_on.ensures.moment ∙ ap (λ (router : RouterState). router.entity.moment) c.self.view_is
+
+pub returns-in_err-pass_on-in-Ok-clause-congested : goal.returns-in_err-pass_on-in-Ok-clause-congested
+returns-in_err-pass_on-in-Ok-clause-congested c = c.pass_on.ensures.congested ∙ ap (λ (router : RouterState). router.entity.congested) c.self.view_is
+
+pub returns-in_err-pass_on-in-Ok-clause-config : goal.returns-in_err-pass_on-in-Ok-clause-config
+returns-in_err-pass_on-in-Ok-clause-config c = c.pass_on.ensures.config ∙ ap (λ (router : RouterState). router.entity.local.configuration) c.self.view_is
+
+pub returns-in-Err-redirect-clause-spent : goal.returns-in-Err-redirect-clause-spent
+returns-in-Err-redirect-clause-spent c = c.in-Err-redirect.ensures.spent
+
+pub returns-in-Err-redirect-clause-moment : goal.returns-in-Err-redirect-clause-moment
+returns-in-Err-redirect-clause-moment c = c.redirect.ensures.moment ∙ c.pass_on.ensures.moment ∙ ap (λ (router : RouterState). router.entity.moment) c.self.view_is
+
+pub returns-in-Err-redirect-clause-congested : goal.returns-in-Err-redirect-clause-congested
+returns-in-Err-redirect-clause-congested c = c.redirect.ensures.congested ∙ c.pass_on.ensures.congested ∙ ap (λ (router : RouterState). router.entity.congested) c.self.view_is
+
+pub returns-in-Err-redirect-clause-config : goal.returns-in-Err-redirect-clause-config
+returns-in-Err-redirect-clause-config c = c.redirect.ensures.config ∙ c.pass_on.ensures.config ∙ ap (λ (router : RouterState). router.entity.local.configuration) c.self.view_is

@@ -27,3 +27,9 @@ returns-clause-follows g c =
     (slice_get_read old.systems.items _ c.args.place node refl (omega (arith, old.systems.ok.0)) c.index_mut.ensures.value)
     c.empty.ensures (c.in_ok-step.ensures.step content carries) puts model h born timely)
     c.put_all_out.ensures.puts
+
+pub returns-clause-clock : goal.returns-clause-clock
+returns-clause-clock g c = c.put_all_out.ensures.clock
+
+pub returns-clause-copies : goal.returns-clause-copies
+returns-clause-copies g c = c.put_all_out.ensures.copies

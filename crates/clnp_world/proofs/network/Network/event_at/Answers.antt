@@ -24,3 +24,6 @@ returns g c =
     subst (λ (event : Option Event). Follows c.event_happens.new.self (g.L.LineSink.taken c.args.lines.now) (g.L.LineSink.taken c.event_happens.new.lines)
     (network.event_happens c.args.subnets.now c.args.limits model event)) (sym there) (follows model h))
     c.event_happens.ensures
+
+pub event_happens-requires-clause-running : goal.event_happens-requires-clause-running
+event_happens-requires-clause-running g c = c.requires.running

@@ -50,3 +50,6 @@ returns-clause-follows g c =
     (subst (λ (s : Option SystemState). Follows c.put_all_out.new.self (g.L.LineSink.taken c.write_receipt.new.lines) (g.L.LineSink.taken c.put_all_out.new.lines)
     (network.comes_to model c.args.place sent s)) there part))))
     c.put_all_out.ensures.puts
+
+pub returns-clause-copies : goal.returns-clause-copies
+returns-clause-copies g c = c.put_all_out.ensures.copies

@@ -77,3 +77,9 @@ returns c =
     (c.place-table.ensures.place ∙ ap (λ (w : PduValue). place_of c.args.self.now.sources w.source) v)
     (segment_in_frame at.After-segment at.In-Ok ∙ ap (λ (w : PduValue). segment_in frame w part) v)
     c.accept-accept.ensures
+
+pub accept-accept-requires-clause-place : goal.accept-accept-requires-clause-place
+accept-accept-requires-clause-place c = c.place-table.ensures.within
+
+pub accept-accept-requires-clause-moment : goal.accept-accept-requires-clause-moment
+accept-accept-requires-clause-moment c = c.requires.moment

@@ -1,6 +1,5 @@
 -- The frame spells the PDU that is read.
-use Rattle.std.proofs.Common.{◌≤◌, List, ℕ, subst, sym}
-use Rattle.clnp_machine.specs.PduHeader.Grammar.{BeginsWith}
+use Rattle.std.proofs.Common.{◌≤◌, subst}
 use Rattle.clnp_machine.specs.PduHeader.Value.{PduValue}
 use Rattle.clnp_machine.specs.PduHeader.View.{pdu_value}
 use Rattle.local_entity.proofs.local.Local.receive.Goals as goal

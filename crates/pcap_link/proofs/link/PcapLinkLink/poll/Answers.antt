@@ -1,4 +1,5 @@
-use Rattle.std.proofs.Common.{drop, length, vec_len, Some, refl, ap, ◌∙◌, arith}
+use Rattle.std.proofs.Common.{drop, length, vec_len, Some, refl, sym, ap, ◌∙◌, arith}
+use Rattle.link_board.specs.Memory.{look_at}
 use Rattle.pcap_link.specs.declared.walk.Frame.{Frame}
 use Rattle.pcap_link.specs.Playing.{Playing, after_look}
 use Rattle.pcap_link.specs.Walk.{came_found, frames_from}
@@ -22,6 +23,13 @@ returns-clause-polled c =
     (frames_from c.self.inside.order (drop c.next_frame-found.result.at c.self.inside.file.items)) (came_found c.in-Some.frame) (Some (came_found c.in-Some.frame))
     c.self.inside.at (vec_len c.self.inside.file) c.self.inside.empties c.self.invariant
     (rw (c.deref.ensures.value, c.in-Some.is) at c.next_frame-found.ensures.next) refl)
+
+pub returns-clause-came : goal.returns-clause-came
+returns-clause-came c =
+    let octets = laid c.in-Some.frame.pdu.now c.copy_from_slice.new.self (drop (length c.in-Some.frame.pdu.now) c.args.buf.now)
+    (c.copy_from_slice.ensures.after ∙ ap (λ (f : Frame). f.pdu.now) c.in-Some.frame-is) in
+    rw (c.in-Some.frame-is, octets, ← c.self.view_is)
+    (sym (ap look_at (rw (c.deref.ensures.value, c.in-Some.is) at c.next_frame-found.ensures.next)))
 
 pub returns-clause-after : goal.returns-clause-after
 returns-clause-after c =

@@ -1,4 +1,5 @@
-use Rattle.std.proofs.Common.{arith, replicate, List, ℕ}
+use Rattle.std.proofs.Common.{arith, refl, replicate, sym, List, ℕ}
+use Rattle.std.proofs.lemmas.Bool.{le-ltb, lt-ltb}
 use Rattle.std.proofs.lemmas.List.{length-replicate}
 use Rattle.pdu_header.specs.Parts.{parts_value}
 use Rattle.pdu_header.proofs.Written.{spells_header}
@@ -12,3 +13,14 @@ invariant_of-result c =
 pub returns-clause-spells : goal.returns-clause-spells
 returns-clause-spells c body e =
     spells_header c.args.parts.now body _ c.args.body_len e c.written.ensures.typed c.requires.fit (omega arith) (omega arith) (c.written.ensures.value body (omega arith))
+
+pub returns-then-octets-gt-MOST_HEADER-clause-refused : goal.returns-then-octets-gt-MOST_HEADER-clause-refused
+returns-then-octets-gt-MOST_HEADER-clause-refused c = rw (sym c.header_len-octets.ensures.value, lt-ltb _ _ c.if-octets-gt-MOST_HEADER.true) refl
+
+pub returns-then-total-gt-MOST_TOTAL-clause-refused : goal.returns-then-total-gt-MOST_TOTAL-clause-refused
+returns-then-total-gt-MOST_TOTAL-clause-refused c =
+    rw (sym c.header_len-octets.ensures.value, le-ltb _ _ c.if-octets-gt-MOST_HEADER.false, lt-ltb _ _ c.if-total-gt-MOST_TOTAL.true) refl
+
+pub returns-clause-refused : goal.returns-clause-refused
+returns-clause-refused c =
+    rw (sym c.header_len-octets.ensures.value, le-ltb _ _ c.if-octets-gt-MOST_HEADER.false, le-ltb _ _ c.if-total-gt-MOST_TOTAL.false) refl

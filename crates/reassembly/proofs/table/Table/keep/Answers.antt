@@ -1,12 +1,15 @@
 -- Room is made, and the segment stands at the end then; its runs are filled.
-use Rattle.std.proofs.Common.{◌≡◌, ◌+◌, ◌<◌, ◌≤◌, List, [], ◌∷◌, ◌++◌, Bool, Option, Some, not, cond, zero-add, length, map, sym, ap, subst, refl, ◌∙◌, arith}
+use Rattle.std.proofs.Common.{◌≡◌, ◌+◌, ◌<◌, ◌≤◌, ℕ, List, [], ◌∷◌, ◌++◌, Bool, true, false, Option, Some, not, cond, zero-add, length, map, sym, ap, subst, refl, ◌∙◌, arith}
 use Rattle.std.specs.Prelude.{slice_get}
 use Rattle.std.specs.List.{AllByRecursion}
+use Rattle.std.proofs.lemmas.Bool.{false≢true}
 use Rattle.std.proofs.lemmas.List.{length_push}
 use Rattle.std.proofs.lemmas.Option.{slice_get_within}
 use Rattle.nsap.proofs.ClnpBase.Lists.{AllByRecursion-slice_get}
 use Rattle.reassembly.specs.declared.openings.Opening.{Opening}
 use Rattle.reassembly.specs.declared.segment.Segment.{Segment}
+use Rattle.reassembly.specs.declared.table.Accept.{Accept}
+use Rattle.reassembly.specs.declared.table.Accept.TheVariants as accept
 use Rattle.reassembly.specs.Arrival.{arrival_of, are_covered, data_len}
 use Rattle.reassembly.specs.Buffer.{Held, Whole, with_kept}
 use Rattle.reassembly.specs.Entries.{present}
@@ -15,7 +18,7 @@ use Rattle.reassembly.specs.Kept.{with_segment}
 use Rattle.reassembly.specs.Offered.{openings_of, total_size}
 use Rattle.reassembly.specs.Pages.{on_pages}
 use Rattle.reassembly.specs.Sound.{IsSound}
-use Rattle.reassembly.specs.State.{IsAt, Stands, TableState, said, segments_of}
+use Rattle.reassembly.specs.State.{IsAt, Stands, TableState, said, segments_of, was_kept}
 use Rattle.reassembly.proofs.Entries.{present-append}
 use Rattle.reassembly.proofs.Indexing.{gap_tells_cover, index_kept, new_place, total_few}
 use Rattle.reassembly.proofs.Keeping.{answer_with, none_or_one, stands_with}
@@ -220,3 +223,75 @@ returns-clause-kept c =
     = ap (λ (l : List Segment). record { limits = t.limits; openings = t.openings.list; slots = t.openings.slots; segments = l }) pushed
     ∙ ap (λ (t : TableState). record t { segments = t.segments ++ c.args.segment ∷ [] }) e in
     record { may = c.requires.room; owned = c.place_for-place.ensures.owned; slot = slot; is = view }
+
+pub place_for-place-requires-clause-moment : goal.place_for-place-requires-clause-moment
+place_for-place-requires-clause-moment c = c.requires.moment
+
+pub place_for-place-requires-clause-offered : goal.place_for-place-requires-clause-offered
+place_for-place-requires-clause-offered c = c.requires.offered
+
+pub place_for-place-requires-clause-place : goal.place_for-place-requires-clause-place
+place_for-place-requires-clause-place c = c.requires.place
+
+pub place_for-place-requires-clause-room : goal.place_for-place-requires-clause-room
+place_for-place-requires-clause-room c = c.requires.room.few_openings
+
+pub place_for-place-requires-clause-same_unit : goal.place_for-place-requires-clause-same_unit
+place_for-place-requires-clause-same_unit c = c.requires.room.same_unit
+
+pub end-to-requires : goal.end-to-requires
+end-to-requires c = c.requires.offered
+
+pub make_room-requires-clause-within : goal.make_room-requires-clause-within
+make_room-requires-clause-within c = c.self.invariant.3.within
+
+pub make_room-requires-clause-fits : goal.make_room-requires-clause-fits
+make_room-requires-clause-fits c = c.self.invariant.3.entries_fit
+
+pub make_room-requires-clause-named : goal.make_room-requires-clause-named
+make_room-requires-clause-named c = c.self.invariant.3.names
+
+pub overflow_cast-index : goal.overflow_cast-index
+overflow_cast-index c = omega (arith, ap length c.entries.ensures, c.make_room.ensures.more, c.make_room.ensures.room, c.self.invariant.3.entries_fit)
+
+pub push-requires-clause-room : goal.push-requires-clause-room
+push-requires-clause-room c = c.make_room.ensures.more
+
+pub push-requires-clause-few : goal.push-requires-clause-few
+push-requires-clause-few c = omega (arith, c.make_room.ensures.more, c.make_room.ensures.room, c.self.invariant.3.entries_fit)
+
+pub slot_at-slot-requires : goal.slot_at-slot-requires
+slot_at-slot-requires c =
+    let named = subst (λ (t : TableState). IsAt t c.place_for-place.result c.args.segment.key) (sym c.self.view_is) c.place_for-place.ensures.is_at in
+    slice_get_within c.self.inside.openings.list c.place_for-place.result named.opening named.stands_at
+
+pub data_len-requires : goal.data_len-requires
+data_len-requires c = c.requires.offered.holds_header
+
+pub returns-clause-was_kept : goal.returns-clause-was_kept
+returns-clause-was_kept c =
+    elim c.if-has_hole.branch [ then-has_hole w ↦ ap was_kept w.result-is | else-has_hole w ↦ ap was_kept w.result-is ]
+
+pub returns-clause-limits : goal.returns-clause-limits
+returns-clause-limits c = ap (λ (t : TableState). t.limits) (c.self.view_is ∙ c.place_for-place.ensures.opened.1)
+
+abbrev slot_told : Accept → ℕ
+slot_told (accept.Whole slot) = slot.0
+slot_told _ = 0
+
+abbrev is_held : Accept → Bool
+is_held accept.Held = true
+is_held _ = false
+
+pub returns-clause-slot : goal.returns-clause-slot
+returns-clause-slot c slot told =
+    let named = subst (λ (t : TableState). IsAt t c.place_for-place.result c.args.segment.key) (sym c.self.view_is) c.place_for-place.ensures.is_at in
+    let same : c.slot_at-slot.result ≡ slot.0 = elim c.if-has_hole.branch [
+      | then-has_hole w ↦ absurd (false≢true (sym (ap is_held (sym w.result-is ∙ told))))
+      | else-has_hole w ↦ ap slot_told (sym w.result-is ∙ told)
+    ] in
+    record {
+      place = c.place_for-place.result;
+      has_slot = c.slot_at-slot.ensures ∙ ap (λ n. Some n) same;
+      is_at = record { opening = named.opening; stands_at = named.stands_at; key_is = named.key_is };
+    }

@@ -7,6 +7,8 @@ use Rattle.clnp_machine.specs.System.{Effect}
 use Rattle.system_entity.specs.Comes.{ComesOf}
 use Rattle.system_entity.specs.Stands.{PartsStand}
 use Rattle.system_entity.proofs.Arrivals.{frame_broken, packet_found}
+use Rattle.std.proofs.lemmas.Result.{IfOk-from_err}
+use Rattle.system_entity.proofs.Working.{on_err}
 use Rattle.system_entity.proofs.entity.SystemEntity.arrive.Goals as goal
 
 pub returns-in-Ok-clause-comes : goal.returns-in-Ok-clause-comes
@@ -29,3 +31,40 @@ returns-in_ok-drop_frame-in-Err-Broken-clause-comes c = λ s content h carried f
       outputs = subst (λ (e : Effect). Appends s.moment None c.args.out.now.items c.drop_frame.new.out.items e.outputs) same
           (c.in_ok-drop_frame-in-Err-Broken.ensures.outputs s content h carried frame);
     }
+
+pub drop_frame-requires : goal.drop_frame-requires
+drop_frame-requires c = record { at_work = c.requires.at_work; few = c.requires.few }
+
+pub pdu_comes-requires : goal.pdu_comes-requires
+pdu_comes-requires c =
+    record { at_work = c.requires.at_work; few = c.requires.few; front = c.in-Ok.ensures.found; header = c.in-Ok.ensures.spells }
+
+pub returns-in_err-drop_frame-in-Err-Broken-clause-comes : goal.returns-in_err-drop_frame-in-Err-Broken-clause-comes
+returns-in_err-drop_frame-in-Err-Broken-clause-comes c = IfOk-from_err c.from_residual.result _ c.from_residual.ensures.0
+
+pub returns-in_err-drop_frame-in-Err-Broken-clause-left : goal.returns-in_err-drop_frame-in-Err-Broken-clause-left
+returns-in_err-drop_frame-in-Err-Broken-clause-left c = IfOk-from_err c.from_residual.result _ c.from_residual.ensures.0
+
+pub returns-in_err-drop_frame-in-Err-Broken-clause-pdu : goal.returns-in_err-drop_frame-in-Err-Broken-clause-pdu
+returns-in_err-drop_frame-in-Err-Broken-clause-pdu c = IfOk-from_err c.from_residual.result _ c.from_residual.ensures.0
+
+pub returns-in_err-drop_frame-in-Err-Broken-clause-none : goal.returns-in_err-drop_frame-in-Err-Broken-clause-none
+returns-in_err-drop_frame-in-Err-Broken-clause-none c = on_err c.from_residual.result c.in_err-drop_frame-in-Err-Broken.ensures.none
+
+pub returns-in_err-other_comes-in-Err-NotClnp-clause-comes : goal.returns-in_err-other_comes-in-Err-NotClnp-clause-comes
+returns-in_err-other_comes-in-Err-NotClnp-clause-comes c = IfOk-from_err c.from_residual-in_err-other_comes-in-Err-NotClnp.result _ c.from_residual-in_err-other_comes-in-Err-NotClnp.ensures.0
+
+pub returns-in_err-other_comes-in-Err-NotClnp-clause-left : goal.returns-in_err-other_comes-in-Err-NotClnp-clause-left
+returns-in_err-other_comes-in-Err-NotClnp-clause-left c = IfOk-from_err c.from_residual-in_err-other_comes-in-Err-NotClnp.result _ c.from_residual-in_err-other_comes-in-Err-NotClnp.ensures.0
+
+pub returns-in_err-other_comes-in-Err-NotClnp-clause-pdu : goal.returns-in_err-other_comes-in-Err-NotClnp-clause-pdu
+returns-in_err-other_comes-in-Err-NotClnp-clause-pdu c = IfOk-from_err c.from_residual-in_err-other_comes-in-Err-NotClnp.result _ c.from_residual-in_err-other_comes-in-Err-NotClnp.ensures.0
+
+pub returns-in_err-other_comes-in-Err-NotClnp-clause-none : goal.returns-in_err-other_comes-in-Err-NotClnp-clause-none
+returns-in_err-other_comes-in-Err-NotClnp-clause-none c = on_err c.from_residual-in_err-other_comes-in-Err-NotClnp.result c.in_err-other_comes-in-Err-NotClnp.ensures.none
+
+pub returns-in_ok-other_comes-in-Err-NotClnp-clause-comes : goal.returns-in_ok-other_comes-in-Err-NotClnp-clause-comes
+returns-in_ok-other_comes-in-Err-NotClnp-clause-comes c = λ s content h carried frame. record {
+  parts = c.in_ok-other_comes-in-Err-NotClnp.ensures.stands s c.args.group content h carried frame;
+  outputs = c.in_ok-other_comes-in-Err-NotClnp.ensures.outputs s c.args.group content h carried frame;
+}

@@ -1,5 +1,5 @@
 -- Buffers end, what was heard is forgotten, and a hello may be due.
-use Rattle.std.proofs.Common.{◌≡◌, ◌∙◌, ℕ, ◌≤◌, sym, ap, subst, List, [], ◌++◌, arith, length, None}
+use Rattle.std.proofs.Common.{◌≡◌, ◌∙◌, ℕ, ◌≤◌, refl, sym, ap, subst, List, [], ◌++◌, arith, length, None}
 use Rattle.std.specs.List.{AllByRecursion, flat_map}
 use Rattle.std.proofs.lemmas.Bool.{eqb-true}
 use Rattle.std.proofs.lemmas.List.{nil_from_length}
@@ -15,6 +15,7 @@ use Rattle.system_entity.specs.State.{SystemEntityState}
 use Rattle.system_entity.specs.Stands.{PartsStand, PartsStandSince}
 use Rattle.system_entity.proofs.Outputs.{all_done, appends_fresh, appends_both, none_done}
 use Rattle.system_entity.proofs.Parts.{deed_is_fresh, parts_after_deed, parts_after_hello, parts_later}
+use Rattle.system_entity.proofs.Working.{on_err, on_ok_refused, sound_at_work}
 use Rattle.system_entity.proofs.entity.SystemEntity.come_to.Goals as goal
 
 pub give_out-requires : goal.give_out-requires
@@ -101,3 +102,175 @@ returns-clause-outputs c = λ s h.
     ((effect_of deed).outputs ++ (then_does (forgets s.moment t) says_hello).outputs) c.new-outputs.ensures.items c.in_ok-append.ensures.items
     (appends_both c.args.now None c.new-outputs.result.items c.give_out.new.out.items c.tick-2.new.out.items (effect_of deed).outputs
     (then_does (forgets s.moment t) says_hello).outputs first second)
+
+-- what it keeps, and where memory is refused
+pub tick-requires : goal.tick-requires
+tick-requires c = record { moment = c.requires.moment }
+
+pub tick-requires-then-is_empty : goal.tick-requires-then-is_empty
+tick-requires-then-is_empty c = record { moment = c.requires.moment }
+
+pub tick-requires-2 : goal.tick-requires-2
+tick-requires-2 c = record { moment = c.requires.moment }
+
+pub invariant_of-self : goal.invariant_of-self
+invariant_of-self c = sound_at_work (state_of c.self.inside) c.args.self.now c.tick.new.self c.self.inside.esis c.self.inside.moment c.self.view_is c.requires.at_work c.self.invariant c.self.invariant.moment c.tick.ensures.config
+
+pub invariant_of-self-2 : goal.invariant_of-self-2
+invariant_of-self-2 c = sound_at_work (state_of c.self.inside) c.args.self.now c.tick.new.self c.self.inside.esis c.args.now c.self.view_is c.requires.at_work c.self.invariant c.requires.moment c.tick.ensures.config
+
+pub invariant_of-self-3 : goal.invariant_of-self-3
+invariant_of-self-3 c = sound_at_work (state_of c.self.inside) c.args.self.now c.tick.new.self c.self.inside.esis c.args.now c.self.view_is c.requires.at_work c.self.invariant c.requires.moment c.tick.ensures.config
+
+pub invariant_of-self-in_err-give_out : goal.invariant_of-self-in_err-give_out
+invariant_of-self-in_err-give_out c = sound_at_work (state_of c.self.inside) c.args.self.now c.tick.new.self c.self.inside.esis c.args.now c.self.view_is c.requires.at_work c.self.invariant c.requires.moment c.tick.ensures.config
+
+pub invariant_of-self-in_err-tick-2 : goal.invariant_of-self-in_err-tick-2
+invariant_of-self-in_err-tick-2 c = sound_at_work (state_of c.self.inside) c.args.self.now c.tick.new.self c.tick-then-is_empty.new.self c.args.now c.self.view_is c.requires.at_work c.self.invariant c.requires.moment c.tick.ensures.config
+
+pub invariant_of-self-then-is_empty : goal.invariant_of-self-then-is_empty
+invariant_of-self-then-is_empty c = sound_at_work (state_of c.self.inside) c.args.self.now c.tick.new.self c.tick-then-is_empty.new.self c.args.now c.self.view_is c.requires.at_work c.self.invariant c.requires.moment c.tick.ensures.config
+
+pub invariant_of-self-in_err-tick-3 : goal.invariant_of-self-in_err-tick-3
+invariant_of-self-in_err-tick-3 c = sound_at_work (state_of c.self.inside) c.args.self.now c.tick.new.self c.tick-2.new.self c.args.now c.self.view_is c.requires.at_work c.self.invariant c.requires.moment c.tick.ensures.config
+
+pub invariant_of-self-in_err-append : goal.invariant_of-self-in_err-append
+invariant_of-self-in_err-append c = sound_at_work (state_of c.self.inside) c.args.self.now c.tick.new.self c.tick-2.new.self c.args.now c.self.view_is c.requires.at_work c.self.invariant c.requires.moment c.tick.ensures.config
+
+pub invariant_of-self-4 : goal.invariant_of-self-4
+invariant_of-self-4 c = sound_at_work (state_of c.self.inside) c.args.self.now c.tick.new.self c.tick-2.new.self c.args.now c.self.view_is c.requires.at_work c.self.invariant c.requires.moment c.tick.ensures.config
+
+pub returns-in_err-tick-clause-stands : goal.returns-in_err-tick-clause-stands
+returns-in_err-tick-clause-stands c = on_ok_refused c.from_residual.result _ c.from_residual.ensures.0
+
+pub returns-in_err-tick-clause-outputs : goal.returns-in_err-tick-clause-outputs
+returns-in_err-tick-clause-outputs c = on_ok_refused c.from_residual.result _ c.from_residual.ensures.0
+
+pub returns-in_err-tick-clause-moment : goal.returns-in_err-tick-clause-moment
+returns-in_err-tick-clause-moment c = on_ok_refused c.from_residual.result _ c.from_residual.ensures.0
+
+pub returns-in_err-tick-clause-none : goal.returns-in_err-tick-clause-none
+returns-in_err-tick-clause-none c = on_err c.from_residual.result refl
+
+pub returns-in_err-tick-clause-spent : goal.returns-in_err-tick-clause-spent
+returns-in_err-tick-clause-spent c = ap (λ (e : SystemEntityState). e.spent) c.self.view_is
+
+pub returns-in_err-tick-clause-congested : goal.returns-in_err-tick-clause-congested
+returns-in_err-tick-clause-congested c = ap (λ (e : SystemEntityState). e.congested) c.self.view_is
+
+pub returns-in_err-tick-clause-config : goal.returns-in_err-tick-clause-config
+returns-in_err-tick-clause-config c = c.tick.ensures.config ∙ ap (λ (e : SystemEntityState). e.local.configuration) c.self.view_is
+
+pub returns-in_err-tick-2-clause-stands : goal.returns-in_err-tick-2-clause-stands
+returns-in_err-tick-2-clause-stands c = on_ok_refused c.from_residual-in_err-tick-2.result _ c.from_residual-in_err-tick-2.ensures.0
+
+pub returns-in_err-tick-2-clause-outputs : goal.returns-in_err-tick-2-clause-outputs
+returns-in_err-tick-2-clause-outputs c = on_ok_refused c.from_residual-in_err-tick-2.result _ c.from_residual-in_err-tick-2.ensures.0
+
+pub returns-in_err-tick-2-clause-moment : goal.returns-in_err-tick-2-clause-moment
+returns-in_err-tick-2-clause-moment c = on_ok_refused c.from_residual-in_err-tick-2.result _ c.from_residual-in_err-tick-2.ensures.0
+
+pub returns-in_err-tick-2-clause-none : goal.returns-in_err-tick-2-clause-none
+returns-in_err-tick-2-clause-none c = on_err c.from_residual-in_err-tick-2.result c.in_err-tick-2.ensures.none
+
+pub returns-in_err-tick-2-clause-spent : goal.returns-in_err-tick-2-clause-spent
+returns-in_err-tick-2-clause-spent c = ap (λ (e : SystemEntityState). e.spent) c.self.view_is
+
+pub returns-in_err-tick-2-clause-congested : goal.returns-in_err-tick-2-clause-congested
+returns-in_err-tick-2-clause-congested c = ap (λ (e : SystemEntityState). e.congested) c.self.view_is
+
+pub returns-in_err-tick-2-clause-config : goal.returns-in_err-tick-2-clause-config
+returns-in_err-tick-2-clause-config c = c.tick.ensures.config ∙ ap (λ (e : SystemEntityState). e.local.configuration) c.self.view_is
+
+pub returns-in_err-give_out-clause-stands : goal.returns-in_err-give_out-clause-stands
+returns-in_err-give_out-clause-stands c = on_ok_refused c.from_residual-in_err-give_out.result _ c.from_residual-in_err-give_out.ensures.0
+
+pub returns-in_err-give_out-clause-outputs : goal.returns-in_err-give_out-clause-outputs
+returns-in_err-give_out-clause-outputs c = on_ok_refused c.from_residual-in_err-give_out.result _ c.from_residual-in_err-give_out.ensures.0
+
+pub returns-in_err-give_out-clause-moment : goal.returns-in_err-give_out-clause-moment
+returns-in_err-give_out-clause-moment c = on_ok_refused c.from_residual-in_err-give_out.result _ c.from_residual-in_err-give_out.ensures.0
+
+pub returns-in_err-give_out-clause-none : goal.returns-in_err-give_out-clause-none
+returns-in_err-give_out-clause-none c = on_err c.from_residual-in_err-give_out.result refl
+
+pub returns-in_err-give_out-clause-spent : goal.returns-in_err-give_out-clause-spent
+returns-in_err-give_out-clause-spent c = ap (λ (e : SystemEntityState). e.spent) c.self.view_is
+
+pub returns-in_err-give_out-clause-congested : goal.returns-in_err-give_out-clause-congested
+returns-in_err-give_out-clause-congested c = ap (λ (e : SystemEntityState). e.congested) c.self.view_is
+
+pub returns-in_err-give_out-clause-config : goal.returns-in_err-give_out-clause-config
+returns-in_err-give_out-clause-config c = c.tick.ensures.config ∙ ap (λ (e : SystemEntityState). e.local.configuration) c.self.view_is
+
+pub returns-in_err-tick-3-clause-stands : goal.returns-in_err-tick-3-clause-stands
+returns-in_err-tick-3-clause-stands c = on_ok_refused c.from_residual-in_err-tick-3.result _ c.from_residual-in_err-tick-3.ensures.0
+
+pub returns-in_err-tick-3-clause-outputs : goal.returns-in_err-tick-3-clause-outputs
+returns-in_err-tick-3-clause-outputs c = on_ok_refused c.from_residual-in_err-tick-3.result _ c.from_residual-in_err-tick-3.ensures.0
+
+pub returns-in_err-tick-3-clause-moment : goal.returns-in_err-tick-3-clause-moment
+returns-in_err-tick-3-clause-moment c = on_ok_refused c.from_residual-in_err-tick-3.result _ c.from_residual-in_err-tick-3.ensures.0
+
+pub returns-in_err-tick-3-clause-none : goal.returns-in_err-tick-3-clause-none
+returns-in_err-tick-3-clause-none c = on_err c.from_residual-in_err-tick-3.result refl
+
+pub returns-in_err-tick-3-clause-spent : goal.returns-in_err-tick-3-clause-spent
+returns-in_err-tick-3-clause-spent c = ap (λ (e : SystemEntityState). e.spent) c.self.view_is
+
+pub returns-in_err-tick-3-clause-congested : goal.returns-in_err-tick-3-clause-congested
+returns-in_err-tick-3-clause-congested c = ap (λ (e : SystemEntityState). e.congested) c.self.view_is
+
+pub returns-in_err-tick-3-clause-config : goal.returns-in_err-tick-3-clause-config
+returns-in_err-tick-3-clause-config c = c.tick.ensures.config ∙ ap (λ (e : SystemEntityState). e.local.configuration) c.self.view_is
+
+pub returns-in_err-append-clause-stands : goal.returns-in_err-append-clause-stands
+returns-in_err-append-clause-stands c = on_ok_refused c.from_residual-in_err-append.result _ c.from_residual-in_err-append.ensures.0
+
+pub returns-in_err-append-clause-outputs : goal.returns-in_err-append-clause-outputs
+returns-in_err-append-clause-outputs c = on_ok_refused c.from_residual-in_err-append.result _ c.from_residual-in_err-append.ensures.0
+
+pub returns-in_err-append-clause-moment : goal.returns-in_err-append-clause-moment
+returns-in_err-append-clause-moment c = on_ok_refused c.from_residual-in_err-append.result _ c.from_residual-in_err-append.ensures.0
+
+pub returns-in_err-append-clause-none : goal.returns-in_err-append-clause-none
+returns-in_err-append-clause-none c = on_err c.from_residual-in_err-append.result c.in_err-append.ensures.items
+
+pub returns-in_err-append-clause-spent : goal.returns-in_err-append-clause-spent
+returns-in_err-append-clause-spent c = ap (λ (e : SystemEntityState). e.spent) c.self.view_is
+
+pub returns-in_err-append-clause-congested : goal.returns-in_err-append-clause-congested
+returns-in_err-append-clause-congested c = ap (λ (e : SystemEntityState). e.congested) c.self.view_is
+
+pub returns-in_err-append-clause-config : goal.returns-in_err-append-clause-config
+returns-in_err-append-clause-config c = c.tick.ensures.config ∙ ap (λ (e : SystemEntityState). e.local.configuration) c.self.view_is
+
+pub returns-then-is_empty-clause-moment : goal.returns-then-is_empty-clause-moment
+returns-then-is_empty-clause-moment c = refl
+
+pub returns-then-is_empty-clause-none : goal.returns-then-is_empty-clause-none
+returns-then-is_empty-clause-none c = tt
+
+pub returns-then-is_empty-clause-spent : goal.returns-then-is_empty-clause-spent
+returns-then-is_empty-clause-spent c = ap (λ (e : SystemEntityState). e.spent) c.self.view_is
+
+pub returns-then-is_empty-clause-congested : goal.returns-then-is_empty-clause-congested
+returns-then-is_empty-clause-congested c = ap (λ (e : SystemEntityState). e.congested) c.self.view_is
+
+pub returns-then-is_empty-clause-config : goal.returns-then-is_empty-clause-config
+returns-then-is_empty-clause-config c = c.tick.ensures.config ∙ ap (λ (e : SystemEntityState). e.local.configuration) c.self.view_is
+
+pub returns-clause-moment : goal.returns-clause-moment
+returns-clause-moment c = refl
+
+pub returns-clause-none : goal.returns-clause-none
+returns-clause-none c = tt
+
+pub returns-clause-spent : goal.returns-clause-spent
+returns-clause-spent c = ap (λ (e : SystemEntityState). e.spent) c.self.view_is
+
+pub returns-clause-congested : goal.returns-clause-congested
+returns-clause-congested c = ap (λ (e : SystemEntityState). e.congested) c.self.view_is
+
+pub returns-clause-config : goal.returns-clause-config
+returns-clause-config c = c.tick.ensures.config ∙ ap (λ (e : SystemEntityState). e.local.configuration) c.self.view_is

@@ -1,14 +1,16 @@
 -- The entity notes it, and what it does is given out.
-use Rattle.std.proofs.Common.{ℕ, sym, subst, None}
+use Rattle.std.proofs.Common.{◌∙◌, ℕ, refl, sym, ap, subst, None}
 use Rattle.std.specs.List.{AllByRecursion}
 use Rattle.clnp_machine.specs.Given.{Appends}
 use Rattle.clnp_machine.specs.Local.{discard}
 use Rattle.clnp_machine.specs.Step.{effect_of}
 use Rattle.system_entity.specs.Deeds.{IsFresh}
+use Rattle.system_entity.specs.Seen.{state_of}
 use Rattle.system_entity.specs.State.{SystemEntityState}
 use Rattle.system_entity.specs.Stands.{PartsStand}
 use Rattle.system_entity.proofs.Outputs.{all_done}
 use Rattle.system_entity.proofs.Parts.{deed_is_fresh, parts_after_deed, parts_now}
+use Rattle.system_entity.proofs.Working.{on_err, on_ok_refused, sound_at_work}
 use Rattle.system_entity.proofs.entity.SystemEntity.drop_frame.Goals as goal
 
 pub give_out-requires : goal.give_out-requires
@@ -41,3 +43,67 @@ returns-clause-outputs c = λ s content h carried frame.
     subst (λ (m : ℕ). Appends m None c.args.out.now.items c.give_out.new.out.items (effect_of deed).outputs) is.moment
     (c.in_ok-give_out.ensures.given deed.after deed.after.moment deed.actions (returns-clause-stands c s content h carried frame) done
     (subst (λ (m : ℕ). AllByRecursion (IsFresh m) deed.actions) (sym is.moment) (deed_is_fresh s deed is)))
+
+-- what it keeps, and where memory is refused
+pub invariant_of-self : goal.invariant_of-self
+invariant_of-self c = sound_at_work (state_of c.self.inside) c.args.self.now c.discard.new.self c.self.inside.esis c.self.inside.moment c.self.view_is c.requires.at_work c.self.invariant c.self.invariant.moment c.discard.ensures.config
+
+pub invariant_of-self-2 : goal.invariant_of-self-2
+invariant_of-self-2 c = sound_at_work (state_of c.self.inside) c.args.self.now c.discard.new.self c.self.inside.esis c.self.inside.moment c.self.view_is c.requires.at_work c.self.invariant c.self.invariant.moment c.discard.ensures.config
+
+pub returns-in_err-discard-clause-stands : goal.returns-in_err-discard-clause-stands
+returns-in_err-discard-clause-stands c = on_ok_refused c.from_residual.result _ c.from_residual.ensures.0
+
+pub returns-in_err-discard-clause-outputs : goal.returns-in_err-discard-clause-outputs
+returns-in_err-discard-clause-outputs c = on_ok_refused c.from_residual.result _ c.from_residual.ensures.0
+
+pub returns-in_err-discard-clause-none : goal.returns-in_err-discard-clause-none
+returns-in_err-discard-clause-none c = on_err c.from_residual.result refl
+
+pub returns-in_err-discard-clause-moment : goal.returns-in_err-discard-clause-moment
+returns-in_err-discard-clause-moment c = ap (λ (e : SystemEntityState). e.moment) c.self.view_is
+
+pub returns-in_err-discard-clause-spent : goal.returns-in_err-discard-clause-spent
+returns-in_err-discard-clause-spent c = ap (λ (e : SystemEntityState). e.spent) c.self.view_is
+
+pub returns-in_err-discard-clause-congested : goal.returns-in_err-discard-clause-congested
+returns-in_err-discard-clause-congested c = ap (λ (e : SystemEntityState). e.congested) c.self.view_is
+
+pub returns-in_err-discard-clause-config : goal.returns-in_err-discard-clause-config
+returns-in_err-discard-clause-config c = c.discard.ensures.config ∙ ap (λ (e : SystemEntityState). e.local.configuration) c.self.view_is
+
+pub returns-in_err-give_out-clause-stands : goal.returns-in_err-give_out-clause-stands
+returns-in_err-give_out-clause-stands c = on_ok_refused c.from_residual-in_err-give_out.result _ c.from_residual-in_err-give_out.ensures.0
+
+pub returns-in_err-give_out-clause-outputs : goal.returns-in_err-give_out-clause-outputs
+returns-in_err-give_out-clause-outputs c = on_ok_refused c.from_residual-in_err-give_out.result _ c.from_residual-in_err-give_out.ensures.0
+
+pub returns-in_err-give_out-clause-none : goal.returns-in_err-give_out-clause-none
+returns-in_err-give_out-clause-none c = on_err c.from_residual-in_err-give_out.result c.in_err-give_out.ensures.none
+
+pub returns-in_err-give_out-clause-moment : goal.returns-in_err-give_out-clause-moment
+returns-in_err-give_out-clause-moment c = ap (λ (e : SystemEntityState). e.moment) c.self.view_is
+
+pub returns-in_err-give_out-clause-spent : goal.returns-in_err-give_out-clause-spent
+returns-in_err-give_out-clause-spent c = ap (λ (e : SystemEntityState). e.spent) c.self.view_is
+
+pub returns-in_err-give_out-clause-congested : goal.returns-in_err-give_out-clause-congested
+returns-in_err-give_out-clause-congested c = ap (λ (e : SystemEntityState). e.congested) c.self.view_is
+
+pub returns-in_err-give_out-clause-config : goal.returns-in_err-give_out-clause-config
+returns-in_err-give_out-clause-config c = c.discard.ensures.config ∙ ap (λ (e : SystemEntityState). e.local.configuration) c.self.view_is
+
+pub returns-clause-none : goal.returns-clause-none
+returns-clause-none c = tt
+
+pub returns-clause-moment : goal.returns-clause-moment
+returns-clause-moment c = ap (λ (e : SystemEntityState). e.moment) c.self.view_is
+
+pub returns-clause-spent : goal.returns-clause-spent
+returns-clause-spent c = ap (λ (e : SystemEntityState). e.spent) c.self.view_is
+
+pub returns-clause-congested : goal.returns-clause-congested
+returns-clause-congested c = ap (λ (e : SystemEntityState). e.congested) c.self.view_is
+
+pub returns-clause-config : goal.returns-clause-config
+returns-clause-config c = c.discard.ensures.config ∙ ap (λ (e : SystemEntityState). e.local.configuration) c.self.view_is

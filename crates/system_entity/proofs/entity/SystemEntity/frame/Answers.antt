@@ -6,12 +6,20 @@ use Rattle.clnp_machine.specs.Content.{Content}
 use Rattle.clnp_machine.specs.Step.{content_comes}
 use Rattle.clnp_machine.specs.System.{SystemState}
 use Rattle.system_entity.specs.Comes.{ComesOf, LeavesAsItWas}
+use Rattle.system_entity.specs.Seen.{state_of}
 use Rattle.system_entity.specs.State.{SystemEntityState}
 use Rattle.system_entity.specs.Stands.{PartsStand, Stands}
 use Rattle.system_entity.specs.declared.entity.Arrival.{Arrival}
 use Rattle.system_entity.specs.declared.entity.Arrival.TheVariants.{Done, Passes}
 use Rattle.system_entity.proofs.Parts.{while_spent}
+use Rattle.system_entity.proofs.Working.{sound_when_spent, takes_a_step}
 use Rattle.system_entity.proofs.entity.SystemEntity.frame.Goals as goal
+
+pub arrive-requires : goal.arrive-requires
+arrive-requires c = record { at_work = takes_a_step (state_of c.self.inside) (c.self.invariant.some c.if-self.false); few = c.requires.few }
+
+pub invariant_of-self : goal.invariant_of-self
+invariant_of-self c = sound_when_spent (state_of c.self.inside) c.self.invariant
 
 -- that the entity isn't spent any more changes nothing of what came
 comes_again : (arrival : Arrival) (s : SystemState) (neighbour : Neighbour) (group : Bool) (content : Content) (here : SystemEntityState) (spent : Bool)

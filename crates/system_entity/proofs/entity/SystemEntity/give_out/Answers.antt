@@ -2,6 +2,8 @@
 use Rattle.std.proofs.Common.{◌∙◌, ◌≡◌, sym, ap, ℕ, List, refl, subst, take}
 use Rattle.std.proofs.Math.Seq.{take-length}
 use Rattle.std.proofs.lemmas.List.{take_all}
+use Rattle.clnp_machine.specs.ClnpPlan.declared.output.Output.{Output}
+use Rattle.esis_entity.specs.Does.{StaysInFront}
 use Rattle.local_entity.specs.declared.action.Action.{Action}
 use Rattle.local_entity.specs.Local.{DoAll}
 use Rattle.system_entity.proofs.Outputs.{GivesOut, does_at, front_more, gives_more, gives_none, next_of}
@@ -46,3 +48,10 @@ returns-clause-given c =
     let all : take c.loop-action.action-index c.deref_mut-action-items.result.now ≡ c.args.actions.items =
     take_all c.loop-action.action-index c.deref_mut-action-items.result.now c.loop-action-test.false ∙ c.deref_mut-action-items.ensures.value in
     subst (λ (actions : List Action). GivesOut c.args.self.now c.args.out.now.items c.loop-action.out.items actions) all c.loop-action.invariant.given
+
+pub returns-in-Err-clause-front : goal.returns-in-Err-clause-front
+returns-in-Err-clause-front c =
+    subst (λ (after : List Output). StaysInFront c.args.out.now.items after) (sym (returns-in-Err-clause-none c)) (take-length c.args.out.now.items)
+
+pub returns-clause-front : goal.returns-clause-front
+returns-clause-front c = c.loop-action.invariant.front

@@ -2,10 +2,18 @@
 use Rattle.std.proofs.Common.{refl, sym, subst, false}
 use Rattle.clnp_machine.specs.Local.{make}
 use Rattle.clnp_machine.specs.System.{SystemState}
+use Rattle.system_entity.specs.Seen.{state_of}
 use Rattle.system_entity.specs.State.{SystemEntityState}
 use Rattle.system_entity.specs.Stands.{PartsStand, Stands}
 use Rattle.system_entity.proofs.Parts.{while_spent}
+use Rattle.system_entity.proofs.Working.{sound_when_spent, takes_a_step}
 use Rattle.system_entity.proofs.entity.SystemEntity.make.Goals as goal
+
+pub make_unit-requires : goal.make_unit-requires
+make_unit-requires c = record { at_work = takes_a_step (state_of c.self.inside) (c.self.invariant.some c.if-self.false); options = c.requires }
+
+pub invariant_of-self : goal.invariant_of-self
+invariant_of-self c = sound_when_spent (state_of c.self.inside) c.self.invariant
 
 pub invariant_of-self-in-Ok : goal.invariant_of-self-in-Ok
 invariant_of-self-in-Ok c =

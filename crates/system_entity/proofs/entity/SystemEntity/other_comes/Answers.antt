@@ -1,5 +1,5 @@
 -- An ES-IS PDU is heard, and what isn't one is noted.
-use Rattle.std.proofs.Common.{◌≡◌, ◌∙◌, sym, ap, subst, ℕ, Bool, List, None}
+use Rattle.std.proofs.Common.{◌≡◌, ◌∙◌, refl, sym, ap, subst, ℕ, Bool, List, None}
 use Rattle.clnp_machine.specs.PduHeader.Rules.{octet}
 use Rattle.clnp_machine.specs.EsisPdus.Value.{EsisValue}
 use Rattle.clnp_machine.specs.EsisPdus.View.{pdu_value}
@@ -13,6 +13,8 @@ use Rattle.system_entity.specs.State.{SystemEntityState}
 use Rattle.system_entity.specs.Stands.{PartsStand}
 use Rattle.system_entity.proofs.Arrivals.{frame_unheard, value_found}
 use Rattle.system_entity.proofs.Parts.{parts_after_hello}
+use Rattle.std.proofs.lemmas.Result.{IfOk-from_err}
+use Rattle.system_entity.proofs.Working.{on_err, sound_at_work}
 use Rattle.system_entity.proofs.entity.SystemEntity.other_comes.Goals as goal
 use Rattle.system_entity.proofs.Outputs.{appends_note}
 
@@ -67,3 +69,33 @@ returns-in_ok-hear-in-Ok-clause-stands c = λ s group content h carried frame. h
 
 pub returns-in_ok-hear-in-Ok-clause-outputs : goal.returns-in_ok-hear-in-Ok-clause-outputs
 returns-in_ok-hear-in-Ok-clause-outputs c = λ s group content h carried frame. given c s group content h carried frame
+
+pub returns-in_err-hear-in-Ok-clause-stands : goal.returns-in_err-hear-in-Ok-clause-stands
+returns-in_err-hear-in-Ok-clause-stands c = IfOk-from_err c.from_residual.result _ c.from_residual.ensures.0
+
+pub returns-in_err-hear-in-Ok-clause-outputs : goal.returns-in_err-hear-in-Ok-clause-outputs
+returns-in_err-hear-in-Ok-clause-outputs c = IfOk-from_err c.from_residual.result _ c.from_residual.ensures.0
+
+pub returns-in_err-hear-in-Ok-clause-none : goal.returns-in_err-hear-in-Ok-clause-none
+returns-in_err-hear-in-Ok-clause-none c = on_err c.from_residual.result c.in_err-hear-in-Ok.ensures.none
+
+pub returns-in_err-hear-in-Ok-clause-spent : goal.returns-in_err-hear-in-Ok-clause-spent
+returns-in_err-hear-in-Ok-clause-spent c = ap (λ (e : SystemEntityState). e.spent) c.self.view_is
+
+pub returns-in_err-give_note-in-Err-clause-stands : goal.returns-in_err-give_note-in-Err-clause-stands
+returns-in_err-give_note-in-Err-clause-stands c = IfOk-from_err c.from_residual-in_err-give_note-in-Err.result _ c.from_residual-in_err-give_note-in-Err.ensures.0
+
+pub returns-in_err-give_note-in-Err-clause-outputs : goal.returns-in_err-give_note-in-Err-clause-outputs
+returns-in_err-give_note-in-Err-clause-outputs c = IfOk-from_err c.from_residual-in_err-give_note-in-Err.result _ c.from_residual-in_err-give_note-in-Err.ensures.0
+
+pub returns-in_err-give_note-in-Err-clause-none : goal.returns-in_err-give_note-in-Err-clause-none
+returns-in_err-give_note-in-Err-clause-none c = on_err c.from_residual-in_err-give_note-in-Err.result c.in_err-give_note-in-Err.ensures.none
+
+pub invariant_of-self : goal.invariant_of-self
+invariant_of-self c = sound_at_work (state_of c.self.inside) c.args.self.now c.self.inside.local c.hear.new.self c.self.inside.moment c.self.view_is c.requires.at_work c.self.invariant c.self.invariant.moment refl
+
+pub returns-in_ok-hear-in-Ok-clause-config : goal.returns-in_ok-hear-in-Ok-clause-config
+returns-in_ok-hear-in-Ok-clause-config c = ap (λ (e : SystemEntityState). e.local.configuration) c.self.view_is
+
+pub hear-requires : goal.hear-requires
+hear-requires c = record { moment = c.self.invariant.moment; timer = c.in-Ok.ensures.suggested }

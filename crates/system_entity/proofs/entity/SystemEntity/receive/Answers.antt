@@ -1,5 +1,5 @@
 -- What the entity does is given out, and then the answer to a group.
-use Rattle.std.proofs.Common.{◌≡◌, ◌∙◌, ℕ, true, sym, ap, subst, List, ◌++◌, take, None}
+use Rattle.std.proofs.Common.{◌≡◌, ◌∙◌, ℕ, true, refl, sym, ap, subst, List, ◌++◌, take, None}
 use Rattle.std.specs.List.{AllByRecursion}
 use Rattle.clnp_machine.specs.ClnpPlan.Configuration.{SystemConfiguration}
 use Rattle.clnp_machine.specs.Given.{Appends}
@@ -15,6 +15,7 @@ use Rattle.system_entity.proofs.Outputs.{all_done, appends_both, front_more}
 use Rattle.system_entity.proofs.Packets.{frame_is, packet_carriable, packet_of}
 use Rattle.system_entity.proofs.Parts.{deed_is_fresh, parts_after_deed, parts_now}
 use Rattle.system_entity.proofs.Receipt.{received_after, received_outputs}
+use Rattle.system_entity.proofs.Working.{on_err, on_ok_refused, sound_at_work}
 use Rattle.system_entity.proofs.entity.SystemEntity.receive.Goals as goal
 
 pub give_out-requires : goal.give_out-requires
@@ -68,3 +69,79 @@ returns-clause-outputs c = λ s p following h carriable frame alive own.
     subst (λ (outputs : List Output). Appends s.moment None c.args.out.now.items c.respond.new.out.items outputs)
     (sym (received_outputs s p following c.args.neighbour c.args.group alive own))
     (subst (λ (m : ℕ). Appends m None c.args.out.now.items c.respond.new.out.items ((effect_of deed).outputs ++ (responds t c.args.neighbour c.args.group p).outputs)) is.moment all)
+
+-- what it keeps, and where memory is refused
+pub invariant_of-self : goal.invariant_of-self
+invariant_of-self c = sound_at_work (state_of c.self.inside) c.args.self.now c.receive_pdu.new.self c.self.inside.esis c.self.inside.moment c.self.view_is c.requires.at_work c.self.invariant c.self.invariant.moment c.receive_pdu.ensures.config
+
+pub invariant_of-self-2 : goal.invariant_of-self-2
+invariant_of-self-2 c = sound_at_work (state_of c.self.inside) c.args.self.now c.receive_pdu.new.self c.self.inside.esis c.self.inside.moment c.self.view_is c.requires.at_work c.self.invariant c.self.invariant.moment c.receive_pdu.ensures.config
+
+pub returns-in_err-receive_pdu-clause-stands : goal.returns-in_err-receive_pdu-clause-stands
+returns-in_err-receive_pdu-clause-stands c = on_ok_refused c.from_residual.result _ c.from_residual.ensures.0
+
+pub returns-in_err-receive_pdu-clause-outputs : goal.returns-in_err-receive_pdu-clause-outputs
+returns-in_err-receive_pdu-clause-outputs c = on_ok_refused c.from_residual.result _ c.from_residual.ensures.0
+
+pub returns-in_err-receive_pdu-clause-none : goal.returns-in_err-receive_pdu-clause-none
+returns-in_err-receive_pdu-clause-none c = on_err c.from_residual.result refl
+
+pub returns-in_err-receive_pdu-clause-moment : goal.returns-in_err-receive_pdu-clause-moment
+returns-in_err-receive_pdu-clause-moment c = ap (λ (e : SystemEntityState). e.moment) c.self.view_is
+
+pub returns-in_err-receive_pdu-clause-spent : goal.returns-in_err-receive_pdu-clause-spent
+returns-in_err-receive_pdu-clause-spent c = ap (λ (e : SystemEntityState). e.spent) c.self.view_is
+
+pub returns-in_err-receive_pdu-clause-congested : goal.returns-in_err-receive_pdu-clause-congested
+returns-in_err-receive_pdu-clause-congested c = ap (λ (e : SystemEntityState). e.congested) c.self.view_is
+
+pub returns-in_err-receive_pdu-clause-config : goal.returns-in_err-receive_pdu-clause-config
+returns-in_err-receive_pdu-clause-config c = c.receive_pdu.ensures.config ∙ ap (λ (e : SystemEntityState). e.local.configuration) c.self.view_is
+
+pub returns-in_err-give_out-clause-stands : goal.returns-in_err-give_out-clause-stands
+returns-in_err-give_out-clause-stands c = on_ok_refused c.from_residual-in_err-give_out.result _ c.from_residual-in_err-give_out.ensures.0
+
+pub returns-in_err-give_out-clause-outputs : goal.returns-in_err-give_out-clause-outputs
+returns-in_err-give_out-clause-outputs c = on_ok_refused c.from_residual-in_err-give_out.result _ c.from_residual-in_err-give_out.ensures.0
+
+pub returns-in_err-give_out-clause-none : goal.returns-in_err-give_out-clause-none
+returns-in_err-give_out-clause-none c = on_err c.from_residual-in_err-give_out.result c.in_err-give_out.ensures.none
+
+pub returns-in_err-give_out-clause-moment : goal.returns-in_err-give_out-clause-moment
+returns-in_err-give_out-clause-moment c = ap (λ (e : SystemEntityState). e.moment) c.self.view_is
+
+pub returns-in_err-give_out-clause-spent : goal.returns-in_err-give_out-clause-spent
+returns-in_err-give_out-clause-spent c = ap (λ (e : SystemEntityState). e.spent) c.self.view_is
+
+pub returns-in_err-give_out-clause-congested : goal.returns-in_err-give_out-clause-congested
+returns-in_err-give_out-clause-congested c = ap (λ (e : SystemEntityState). e.congested) c.self.view_is
+
+pub returns-in_err-give_out-clause-config : goal.returns-in_err-give_out-clause-config
+returns-in_err-give_out-clause-config c = c.receive_pdu.ensures.config ∙ ap (λ (e : SystemEntityState). e.local.configuration) c.self.view_is
+
+pub returns-clause-none : goal.returns-clause-none
+returns-clause-none c = tt
+
+pub returns-clause-moment : goal.returns-clause-moment
+returns-clause-moment c = ap (λ (e : SystemEntityState). e.moment) c.self.view_is
+
+pub returns-clause-spent : goal.returns-clause-spent
+returns-clause-spent c = ap (λ (e : SystemEntityState). e.spent) c.self.view_is
+
+pub returns-clause-congested : goal.returns-clause-congested
+returns-clause-congested c = ap (λ (e : SystemEntityState). e.congested) c.self.view_is
+
+pub returns-clause-config : goal.returns-clause-config
+returns-clause-config c = c.receive_pdu.ensures.config ∙ ap (λ (e : SystemEntityState). e.local.configuration) c.self.view_is
+
+pub returns-in-Err-clause-moment : goal.returns-in-Err-clause-moment
+returns-in-Err-clause-moment c = ap (λ (e : SystemEntityState). e.moment) c.self.view_is
+
+pub returns-in-Err-clause-spent : goal.returns-in-Err-clause-spent
+returns-in-Err-clause-spent c = ap (λ (e : SystemEntityState). e.spent) c.self.view_is
+
+pub returns-in-Err-clause-congested : goal.returns-in-Err-clause-congested
+returns-in-Err-clause-congested c = ap (λ (e : SystemEntityState). e.congested) c.self.view_is
+
+pub returns-in-Err-clause-config : goal.returns-in-Err-clause-config
+returns-in-Err-clause-config c = c.receive_pdu.ensures.config ∙ ap (λ (e : SystemEntityState). e.local.configuration) c.self.view_is

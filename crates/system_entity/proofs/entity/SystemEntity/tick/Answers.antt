@@ -1,10 +1,22 @@
 -- The step is whole: the entity stands for the state after it.
-use Rattle.std.proofs.Common.{refl, sym, subst, false}
+use Rattle.std.proofs.Common.{◌≤◌, refl, sym, subst, false}
 use Rattle.clnp_machine.specs.Step.{moment_comes}
+use Rattle.system_entity.specs.Seen.{state_of}
 use Rattle.system_entity.specs.State.{SystemEntityState}
 use Rattle.system_entity.specs.Stands.{PartsStand}
 use Rattle.system_entity.proofs.Parts.{while_spent}
+use Rattle.system_entity.proofs.Working.{sound_when_spent, takes_a_step}
 use Rattle.system_entity.proofs.entity.SystemEntity.tick.Goals as goal
+
+pub come_to-requires : goal.come_to-requires
+come_to-requires c = record {
+  at_work = takes_a_step (state_of c.self.inside) (c.self.invariant.some c.if-self.false);
+  later = subst (λ (e : SystemEntityState). e.moment ≤ c.args.now) (sym c.self.view_is) c.requires.later;
+  moment = c.requires.moment;
+}
+
+pub invariant_of-self : goal.invariant_of-self
+invariant_of-self c = sound_when_spent (state_of c.self.inside) c.self.invariant
 
 pub invariant_of-self-2 : goal.invariant_of-self-2
 invariant_of-self-2 c =
