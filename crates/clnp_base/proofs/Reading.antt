@@ -1,10 +1,11 @@
 -- Lines and words, cut where the reader cuts them.
-use Rattle.std.proofs.Common.{◌≡◌, ◌≢◌, ℕ, ◌+◌, ◌<◌, ◌≤◌, ◌==◌, inl, inr, List, [], ◌∷◌, ◌++◌, length, arith, take, drop, sym, ap, ◌∙◌, refl, true, false, add-one, zero, suc}
+use Rattle.std.proofs.Common.{◌≡◌, ◌≢◌, ℕ, ◌+◌, ◌<◌, ◌≤◌, ◌==◌, inl, inr, List, [], ◌∷◌, ◌++◌, length, arith, take, drop, slice_index, sym, ap, ◌∙◌, refl, true, false, add-one, zero, suc}
 use Rattle.std.proofs.lemmas.Bool.{cases_Bool}
 use Rattle.std.proofs.lemmas.Grind.{common_steps}
 use Rattle.clnp_base.specs.Text.{lines_of, words_of, onto_first, begins_with}
 use Rattle.clnp_base.specs.Cuts.{index_of, without_return}
 use Rattle.std.specs.List.{AllByRecursion}
+use Rattle.memchr.specs.Find.{NoneBefore, Nowhere, Passes, is_byte}
 
 index_of-here : (w c : ℕ) (cs : List ℕ) → (c == w) ≡ true → index_of w (c ∷ cs) ≡ 0
 index_of-here w c cs t = rw t refl
@@ -132,3 +133,26 @@ lines_of-few (c ∷ cs) = grind (arith, common_steps, lines_of-few cs, onto_firs
 pub words_of-few : (xs : List ℕ) → length (words_of xs) ≤ length xs
 words_of-few [] = omega arith
 words_of-few (c ∷ cs) = grind (arith, common_steps, words_of-few cs, onto_first-few c (length cs) (words_of cs) (words_of-few cs))
+
+-- nowhere in a list before a place, and nowhere in the rest of it
+behind : (w c : ℕ) (cs : List ℕ) (n : ℕ) → Nowhere (Passes (is_byte w) (c ∷ cs)) 0 (suc n) → Nowhere (Passes (is_byte w) cs) 0 n
+behind w c cs n none = λ k low high passes. none (suc k) (omega arith) (omega (arith, high)) passes
+
+-- the first octet isn't the one that is nowhere
+front : (w c : ℕ) (cs : List ℕ) (n : ℕ) → Nowhere (Passes (is_byte w) (c ∷ cs)) 0 (suc n) → (c == w) ≡ false
+front w c cs n none = elim (cases_Bool (c == w)) [ inl t ↦ absurd (none 0 (omega arith) (omega arith) t) | inr f ↦ f ]
+
+-- an octet that a search finds first stands at its index
+pub index_of_found : (w : ℕ) (xs : List ℕ) (k : ℕ) → k < length xs → Nowhere (Passes (is_byte w) xs) 0 k → Passes (is_byte w) xs k → index_of w xs ≡ k
+index_of_found w [] k within none passes = absurd (omega arith)
+index_of_found w (c ∷ cs) zero within none passes = index_of-here w c cs passes
+index_of_found w (c ∷ cs) (suc k) within none passes =
+    index_of-next w c cs (front w c cs k none)
+    ∙ (ap (λ (i : ℕ). i + 1) (index_of_found w cs k (omega (arith, within)) (behind w c cs k none) passes) ∙ omega arith)
+
+-- the index of an octet that a search doesn't find is the length
+pub index_of_none : (w : ℕ) (xs : List ℕ) → Nowhere (Passes (is_byte w) xs) 0 (length xs) → index_of w xs ≡ length xs
+index_of_none w [] none = refl
+index_of_none w (c ∷ cs) none =
+    index_of-next w c cs (front w c cs (length cs) none)
+    ∙ (ap (λ (i : ℕ). i + 1) (index_of_none w cs (behind w c cs (length cs) none)) ∙ omega arith)

@@ -68,7 +68,7 @@ pub enum ReadStop {
 }
 
 /// How many octets are asked for in one read.
-const CHUNK: usize = 4096;
+const CHUNK: usize = 65_536;
 
 /// Reads to the end of the input, and appends what comes to `into`.
 ///

@@ -3,6 +3,7 @@ ghost use Rattle.std.specs.Str.{bytes_eq};
 ghost use Rattle.clnp_base.specs.Text.{lines_of, words_of, begins_with, decimal_of, is_skipped};
 ghost use Rattle.clnp_base.specs.Cuts.{index_of, without_return, with_digit};
 
+use memchr::memchr;
 use std::marker::Model;
 
 /// The first line of a text and what follows it, where the text has a line.
@@ -18,7 +19,7 @@ pub fn next_line(text: &[u8]) -> Option<(&[u8], &[u8])>
     if text.is_empty() {
         return None;
     }
-    let end = index_of(text, b'\n');
+    let end = end_of_line(text);
     if end == text.len() {
         return Some((text, &[]));
     }
@@ -161,6 +162,17 @@ fn with_digit(value: u64, octet: u8) -> Option<u64>
         return None;
     }
     value.checked_mul(10)?.checked_add(u64::from(octet - b'0'))
+}
+
+/// Where the first `\n` stands, or the length where there is none.
+fn end_of_line(text: &[u8]) -> usize
+    ensures place { result ≡ index_of 10 text.now }
+    ensures within { result ≤ length text.now }
+{
+    match memchr(b'\n', text) {
+        Some(place) => place,
+        None => text.len(),
+    }
 }
 
 /// Where the octet first stands, or the length where it doesn't.
