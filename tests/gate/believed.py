@@ -18,7 +18,7 @@ CALLS = [("clnp_program", "src/call.rt", "run"), ("clnp_program", "src/top.rt", 
 # what the headline doesn't speak of: crates and files of other commands than `sim`, of what is said of refused texts, and of
 # the program's texts about itself
 OF_OTHERS = [
-    "capture_commands", "pcap_commands", "fair_commands", "live_commands", "link_board", "link_words", "scenario_advice",
+    "capture_commands", "fair_commands", "live_commands", "link_board", "scenario_advice",
     "network_commands/specs/Storm.antt", "network_commands/src/storm.rt", "clnp_program/specs/Live.antt",
     "clnp_program/specs/Advised.antt", "clnp_program/specs/Agree.antt", "command_base/specs/ByLine.antt",
     "command_base/specs/Output.antt", "clnp_program/specs/Texts.antt", "scenario_writing",

@@ -34,7 +34,7 @@ FOLDERS = ("crates/", "docs/", "tests/", "edits/", "examples/", "bench/", "tools
 IN_A_CRATE = ("src/", "specs/", "proofs/", "must-fail/", "data/")
 NAMES = r"`([^`\n]+)`"
 # the modules that stand before the names of their laws
-MODULES_OF_LAWS = ("laws", "attaching")
+MODULES_OF_LAWS = ("laws", "attaching", "echo_laws", "link_laws", "pcap_laws", "report_laws")
 
 wrong = []
 

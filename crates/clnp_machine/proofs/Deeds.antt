@@ -12,7 +12,7 @@ use Rattle.clnp_plan.specs.ClnpOptions.declared.reasons.Reason.TheVariants.{Life
 use Rattle.clnp_plan.specs.PduHeader.declared.kind.Kind.{Kind}
 use Rattle.clnp_plan.specs.PduHeader.declared.kind.Kind.TheVariants.{Dt, Er, Erq, Erp}
 use Rattle.clnp_plan.specs.PduHeader.Rules.{header_of, is_reportable, octet, refusal as rule_broken}
-use Rattle.error_reports.specs.Report.{reason_option, source_of}
+use Rattle.made_pdus.specs.Report.{reason_option, source_of}
 use Rattle.reassembly.specs.Arrival.{Arrival, same_key}
 use Rattle.reassembly.specs.Buffer as buffer
 use Rattle.reassembly.specs.Buffer.{Answer, Buffer, held, size_of}

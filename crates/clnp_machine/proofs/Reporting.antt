@@ -13,9 +13,9 @@ use Rattle.clnp_plan.specs.PduHeader.Reading.{address_at}
 use Rattle.clnp_plan.specs.PduHeader.Rules.{header_of, header_size as size_of_header, source_place}
 use Rattle.clnp_plan.specs.PduHeader.Spelling.{header, segmentation_octets, type_code}
 use Rattle.clnp_plan.specs.PduHeader.Value.{PduValue, SegmentationPart}
-use Rattle.error_reports.specs.Report.{source_of}
-use Rattle.echo.specs.Reply.{part_of, plain_length, reply_of}
-use Rattle.echo.proofs.Lengths.{head_is}
+use Rattle.made_pdus.specs.Report.{source_of}
+use Rattle.made_pdus.specs.Reply.{part_of, plain_length, reply_of}
+use Rattle.made_pdus.proofs.ReplyLengths.{head_is}
 use Rattle.reassembly.specs.Arrival.{Arrival}
 use Rattle.clnp_machine.specs.Unit.{DataUnit, IsCarriable, Packet, more_follows, segmentation_of, value_of, whole_packet, wire}
 use Rattle.clnp_machine.specs.Content.{Labelled, Esis, Unlabelled}

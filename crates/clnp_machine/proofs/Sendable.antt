@@ -19,9 +19,9 @@ use Rattle.clnp_plan.specs.PduHeader.Grammar.{IsSegment, is_report}
 use Rattle.clnp_plan.specs.PduHeader.Rules.{extent_refusal, header_of, header_size as size_of_header, is_bad_address, is_reportable, octet, source_place, type_of, wants_report}
 use Rattle.clnp_plan.proofs.PduHeader.Accepted.{within}
 use Rattle.clnp_plan.proofs.PduHeader.Spelled.{address_is}
-use Rattle.error_reports.specs.Report.{reason_option, source_of}
-use Rattle.error_reports.proofs.Lengths.{four}
-use Rattle.error_reports.proofs.Reason.{alone, alone_fits}
+use Rattle.made_pdus.specs.Report.{reason_option, source_of}
+use Rattle.made_pdus.proofs.Lengths.{four}
+use Rattle.made_pdus.proofs.Reason.{alone, alone_fits}
 use Rattle.reassembly.specs.Arrival.{Arrival}
 use Rattle.clnp_plan.specs.EsisTables.declared.fact.Neighbour.{Neighbour}
 use Rattle.clnp_plan.specs.Asking.{IsFormedAsk}

@@ -8,8 +8,8 @@ use Rattle.clnp_plan.specs.EsisTables.declared.fact.Neighbour.{Neighbour}
 use Rattle.clnp_plan.specs.PduHeader.declared.kind.Kind.TheVariants.{Dt}
 use Rattle.clnp_plan.specs.PduHeader.Spelling.{header_length}
 use Rattle.clnp_plan.specs.declared.config.PortConfig.{PortConfig}
-use Rattle.segmenter.specs.Range.{Range}
-use Rattle.segmenter.specs.Cut.{data_room, nth_range, ranges}
+use Rattle.made_pdus.specs.Range.{Range}
+use Rattle.made_pdus.specs.Cut.{data_room, nth_range, ranges}
 use Rattle.clnp_plan.specs.ClnpOptions.Edits.{HaveOneForm}
 use Rattle.clnp_plan.specs.ClnpOptions.Parameter.{Parameter}
 use Rattle.clnp_machine.specs.Unit.{DataUnit, Packet, value_of, wire, whole_packet, piece_of, pieces, cut}

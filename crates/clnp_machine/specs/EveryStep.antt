@@ -7,7 +7,7 @@ use Rattle.clnp_plan.specs.ClnpOptions.Parameter.{parameters}
 use Rattle.clnp_plan.specs.PduHeader.Grammar.{BeginsWith}
 use Rattle.clnp_plan.specs.PduHeader.declared.kind.Kind.TheVariants.{Dt, Er, Erq, Erp}
 use Rattle.clnp_plan.specs.PduHeader.Rules.{header_of, octet, refusal}
-use Rattle.error_reports.specs.Report.{source_of}
+use Rattle.made_pdus.specs.Report.{source_of}
 use Rattle.clnp_plan.specs.PduHeader.Value.{PduValue}
 use Rattle.esis_pdus.specs.Grammar as esis
 use Rattle.esis_pdus.specs.Rules as esis_rules

@@ -8,9 +8,7 @@ pub use Rattle.reassembly.specs as Reassembly
 pub use Rattle.clnp_plan.specs.EsisTables
 pub use Rattle.clnp_plan.specs.Forwarding
 pub use Rattle.esis_pdus.specs as EsisPdus
-pub use Rattle.segmenter.specs as Segmenter
-pub use Rattle.error_reports.specs as ErrorReports
-pub use Rattle.echo.specs as Echo
+pub use Rattle.made_pdus.specs as MadePdus
 pub use Rattle.clnp_plan.specs as ClnpPlan
 pub mod Unit
 pub mod Identifiers

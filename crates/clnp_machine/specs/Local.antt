@@ -9,10 +9,10 @@ use Rattle.clnp_plan.specs.PduHeader.declared.kind.Kind.{Kind}
 use Rattle.clnp_plan.specs.PduHeader.declared.kind.Kind.TheVariants.{Dt, Er, Erq, Erp}
 use Rattle.clnp_plan.specs.PduHeader.Rules.{header_of, is_reportable}
 use Rattle.clnp_plan.specs.PduHeader.Spelling.{header_length, type_code}
-use Rattle.error_reports.specs.Report.{reason_option, source_of}
-use Rattle.error_reports.specs.Told.{cause_in, place_in}
-use Rattle.echo.specs.Match.{echoes}
-use Rattle.echo.specs.Reply.{needs_identifier}
+use Rattle.made_pdus.specs.Report.{reason_option, source_of}
+use Rattle.made_pdus.specs.Told.{cause_in, place_in}
+use Rattle.made_pdus.specs.Match.{echoes}
+use Rattle.made_pdus.specs.Reply.{needs_identifier}
 use Rattle.reassembly.specs.Arrival.{Arrival}
 use Rattle.reassembly.specs.Buffer as buffer
 use Rattle.reassembly.specs.Buffer.{Answer, Buffer}

@@ -5,8 +5,8 @@ use Rattle.clnp_plan.specs.ClnpOptions.Parameter.{Parameter}
 use Rattle.clnp_plan.specs.PduHeader.Value.{SegmentationPart, PduValue}
 use Rattle.clnp_plan.specs.PduHeader.Spelling.{spelling, header_length}
 use Rattle.clnp_plan.specs.PduHeader.Grammar.{IsPdu}
-use Rattle.segmenter.specs.Range.{Range}
-use Rattle.segmenter.specs.Cut.{data_room, ranges}
+use Rattle.made_pdus.specs.Range.{Range}
+use Rattle.made_pdus.specs.Cut.{data_room, ranges}
 
 -- who made a unit: the system declared at a place, from 0, or somebody outside
 pub data Maker : Type 0 where

@@ -7,9 +7,9 @@ ghost use Rattle.clnp_plan.specs.PduHeader.declared.kind.Kind.{Kind};
 ghost use Rattle.clnp_plan.specs.PduHeader.declared.kind.Kind.TheVariants.{Er, Erp};
 ghost use Rattle.clnp_plan.specs.PduHeader.Spelling.{header_length, type_code};
 ghost use Rattle.clnp_plan.specs.PduHeader.Value.{PduValue};
-ghost use Rattle.error_reports.specs.Report.{report_of};
-ghost use Rattle.echo.specs.Reply.{reply_of};
-ghost use Rattle.segmenter.specs.Cut as segmenter;
+ghost use Rattle.made_pdus.specs.Report.{report_of};
+ghost use Rattle.made_pdus.specs.Reply.{reply_of};
+ghost use Rattle.made_pdus.specs.Cut as segmenter;
 ghost use Rattle.clnp_plan.specs.Nsap.Address.{IsAddress};
 ghost use Rattle.clnp_plan.specs.Nsap.declared.target.Target.TheVariants.{System, EndSystems};
 ghost use Rattle.clnp_plan.specs.ClnpOptions.Edits.{is_complete, target_of, value_of as option_value};
@@ -485,7 +485,7 @@ pub fn reports_make_no_storm()
         → kind_of (type_of (header_of (frame_of frame))) ≡ Some Er
         → made_in (discard s frame reason place).actions ≡ [] }
 {
-    error_reports::laws::no_report_of_a_report();
+    made_pdus::report_laws::no_report_of_a_report();
 }
 
 /// Whatever comes in a frame makes a system make at most one unit.

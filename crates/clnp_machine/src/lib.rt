@@ -36,12 +36,12 @@ pub mod base {
 
 /// The echo function.
 pub mod echoing {
-    pub use echo::{laws, matches_parts, needs_id};
+    pub use made_pdus::{echo_laws as laws, matches_parts, needs_id};
 }
 
 /// Error reports.
 pub mod reports {
-    pub use error_reports::{read, report_in};
+    pub use made_pdus::{read, report_in};
 }
 
 /// Reassembly buffers.
@@ -51,5 +51,5 @@ pub mod reassembling {
 
 /// PDUs cut into segments.
 pub mod segmenting {
-    pub use segmenter::{Cut, Cuts, NotPermitted};
+    pub use made_pdus::{Cut, Cuts, NotPermitted};
 }

@@ -12,7 +12,7 @@ use Rattle.scenario_plan.specs.declared.event.Move.TheVariants.{One, SettleOne, 
 use Rattle.clnp_machine.specs.PduHeader.declared.kind.Kind.TheVariants.{Er, Erq, Erp}
 use Rattle.clnp_machine.specs.PduHeader.Rules.{header_of}
 use Rattle.clnp_machine.specs.PduHeader.Spelling.{header_length}
-use Rattle.clnp_machine.specs.Echo.Match.{Echoes}
+use Rattle.clnp_machine.specs.MadePdus.Match.{Echoes}
 use Rattle.clnp_machine.specs.EsisPdus.Grammar.{IsPdu}
 use Rattle.clnp_machine.specs.Content.{Labelled, Esis, Unlabelled, Content, frame_of}
 use Rattle.clnp_machine.specs.Unit.{DataUnit, DeclaredAt, Packet, value_of, wire}

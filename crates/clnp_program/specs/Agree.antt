@@ -6,15 +6,15 @@ use Rattle.capture_commands.specs.CommandBase.declared.status.Status.TheVariants
 use Rattle.network_commands.specs.ScenarioWriting.Scenario.Grammar.{plan_of_version_1}
 use Rattle.network_commands.specs.ClnpSafety.Migrated.{IsMigrated}
 use Rattle.capture_commands.specs.RoundTrip.{EndsPlainly, IsAcceptedCapture, PacksTo, ShowsAs, without_skipped}
-use Rattle.pcap_commands.specs.PcapFrames.File.{Captured}
-use Rattle.pcap_commands.specs.PcapFrames.Making.{frames_in, made_record}
-use Rattle.pcap_commands.specs.PcapFrames.Reading.{Ending, IsReadAs}
-use Rattle.pcap_commands.specs.declared.form.Form.TheVariants.{Remade}
-use Rattle.pcap_commands.specs.Laws.{lines_of_frames}
-use Rattle.pcap_commands.specs.Lines.{TellsRecords}
-use Rattle.pcap_commands.specs.Make.{frames_of, make_status}
-use Rattle.fair_commands.specs.FairText.Fair.{IsFair}
-use Rattle.fair_commands.specs.FairText.Grammar.{capture_of}
+use Rattle.capture_commands.specs.PcapFrames.File.{Captured}
+use Rattle.capture_commands.specs.PcapFrames.Making.{frames_in, made_record}
+use Rattle.capture_commands.specs.PcapFrames.Reading.{Ending, IsReadAs}
+use Rattle.capture_commands.specs.declared.form.Form.TheVariants.{Remade}
+use Rattle.capture_commands.specs.Laws.{lines_of_frames}
+use Rattle.capture_commands.specs.Lines.{TellsRecords}
+use Rattle.capture_commands.specs.Make.{frames_of, make_status}
+use Rattle.fair_commands.specs.Fair.{IsFair}
+use Rattle.fair_commands.specs.Grammar.{capture_of}
 
 pub record TextsAgree : Type 0 where
   -- Of a capture in lower case without skipped lines, each line of which ends by `\n` alone, whose frames are accepted and have

@@ -4,9 +4,9 @@ use Rattle.std.specs.Io.KnownBytes.{Keeps}
 use Rattle.capture_commands.specs.CommandBase.declared.status.Status.{Status}
 use Rattle.capture_commands.specs.CommandBase.declared.status.Status.TheVariants.{Done, BadWords, TooLong, BadInput, WorldFull, ReadFault, WriteFault, LinksGone, NoMemory}
 use Rattle.capture_commands.specs.CommandBase.Reading.{Excuses, TakesTooMany, TakesWithin}
-use Rattle.pcap_commands.specs.declared.form.Form.{Form}
-use Rattle.pcap_commands.specs.declared.form.Form.TheVariants.{Shown, Remade}
-use Rattle.pcap_commands.specs.Serves.{ServesFile}
+use Rattle.capture_commands.specs.declared.form.Form.{Form}
+use Rattle.capture_commands.specs.declared.form.Form.TheVariants.{Shown, Remade}
+use Rattle.capture_commands.specs.Serves.{ServesFile}
 use Rattle.clnp_program.specs.declared.command.Command.{Command}
 use Rattle.clnp_program.specs.declared.command.Command.TheVariants.{Whole, Streamed, Run}
 use Rattle.clnp_program.specs.declared.command.WholeCommand.{WholeCommand}

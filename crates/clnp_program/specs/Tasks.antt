@@ -10,7 +10,7 @@ use Rattle.capture_commands.specs.CommandBase.ComesAs.{Task, most_input}
 use Rattle.capture_commands.specs.Show.{showing}
 use Rattle.capture_commands.specs.Check.{checking, first_checked}
 use Rattle.capture_commands.specs.Pack.{packing}
-use Rattle.pcap_commands.specs.Make.{make_task}
+use Rattle.capture_commands.specs.Make.{make_task}
 use Rattle.fair_commands.specs.Reassemble.{reassemble_task}
 use Rattle.clnp_program.specs.declared.command.WholeCommand.{WholeCommand}
 use Rattle.clnp_program.specs.declared.command.WholeCommand.TheVariants.{Sim, Trace, Show, Check, Pack, PcapMake, Reassemble, Migrate, Storm}

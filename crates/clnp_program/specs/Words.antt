@@ -3,7 +3,7 @@ use Rattle.std.specs.Prelude.{◌≡◌, ℕ, ◌+◌, ◌&&◌, nat_le, nat_lt,
 use Rattle.std.specs.Str.{bytes_eq}
 use Rattle.std.specs.Io.KnownBytes.{Keeps}
 use Rattle.network_commands.specs.ClnpBase.Text.{decimal_of}
-use Rattle.link_words.specs.Words.{is_link_word}
+use Rattle.link_board.specs.Words.{is_link_word}
 use Rattle.clnp_program.specs.declared.command.Command.{Command}
 use Rattle.clnp_program.specs.declared.command.Command.TheVariants.{Whole, Streamed, Run}
 use Rattle.clnp_program.specs.declared.command.WholeCommand.{WholeCommand}

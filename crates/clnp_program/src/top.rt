@@ -9,7 +9,7 @@ ghost use Rattle.network_commands.specs.ClnpSafety.Runs.{RunsAreSafe};
 ghost use Rattle.clnp_program.specs.Words.{command_of, reads, Reads};
 ghost use Rattle.clnp_program.specs.Advised.{Advised};
 ghost use Rattle.clnp_program.specs.declared.command.Command.TheVariants.{Whole};
-ghost use Rattle.pcap_commands.specs.Serves.{ServesFile};
+ghost use Rattle.capture_commands.specs.Serves.{ServesFile};
 ghost use Rattle.capture_commands.specs.CommandBase.Reading.{TakesTooMany, TakesWithin};
 ghost use Rattle.clnp_program.specs.Live.{RunsAs};
 ghost use Rattle.clnp_program.specs.Serves.{Serves, ServesCommand, form_of};
@@ -22,6 +22,7 @@ use crate::command::{Command, StreamedCommand, WholeCommand};
 use capture_commands::check::check;
 use capture_commands::pack::pack;
 use capture_commands::show::show;
+use capture_commands::{pcap_lines, pcap_make, pcap_show};
 use fair_commands::reassemble;
 use live_commands::advising::Advice;
 use live_commands::{Ports, run_system};
@@ -32,7 +33,6 @@ use network_commands::scenarios::laws;
 use network_commands::sim::sim;
 use network_commands::storm::storm;
 use network_commands::{Status, Telling};
-use pcap_commands::{pcap_lines, pcap_make, pcap_show};
 use std::alloc::Global;
 
 /// The most octets of an input.
@@ -157,8 +157,8 @@ fn texts_agree()
 {
     capture_commands::laws::what_is_shown_is_packed_again();
     capture_commands::laws::what_is_packed_is_shown_again();
-    pcap_commands::laws::lines_make_the_frames_again();
-    pcap_commands::laws::a_made_file_gives_its_lines_again();
+    capture_commands::pcap_laws::lines_make_the_frames_again();
+    capture_commands::pcap_laws::a_made_file_gives_its_lines_again();
     fair_commands::shares_are_fair();
     texts_of_version_1_migrate();
 }

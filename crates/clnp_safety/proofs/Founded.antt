@@ -7,7 +7,7 @@ use Rattle.std.proofs.lemmas.List.Folds.{list_any-from_Any}
 use Rattle.std.proofs.lemmas.Option.{same_Some, slice_get_within}
 use Rattle.clnp_machine.proofs.ClnpBase.SameOctets.{same_from, same-itself}
 use Rattle.clnp_machine.specs.PduHeader.declared.kind.Kind.TheVariants.{Er, Erp}
-use Rattle.clnp_machine.specs.Echo.Match.{echoes}
+use Rattle.clnp_machine.specs.MadePdus.Match.{echoes}
 use Rattle.clnp_network.specs.ScenarioPlan.Plan.{IsFit, Plan}
 use Rattle.clnp_machine.specs.ClnpPlan.Configuration.{SystemConfiguration}
 use Rattle.clnp_machine.specs.Unit.{DataUnit, DeclaredAt}

@@ -6,7 +6,7 @@ use Rattle.clnp_machine.specs.Nsap.Address.{IsAddress}
 use Rattle.clnp_machine.specs.ClnpOptions.Edits.{HaveOneForm}
 use Rattle.clnp_machine.specs.ClnpOptions.Parameter.{Parameter}
 use Rattle.clnp_machine.specs.PduHeader.Spelling.{header_length}
-use Rattle.clnp_machine.specs.Echo.Match.{Echoes, echoes}
+use Rattle.clnp_machine.specs.MadePdus.Match.{Echoes, echoes}
 use Rattle.clnp_machine.specs.EsisPdus.Grammar.{IsPdu}
 use Rattle.clnp_machine.specs.EsisPdus.Spelling.{spelling}
 use Rattle.clnp_machine.specs.EsisPdus.Value.{EsisValue}

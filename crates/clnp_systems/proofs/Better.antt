@@ -12,8 +12,8 @@ use Rattle.clnp_machine.specs.Step.{is_at, is_redirected, redirects}
 use Rattle.clnp_machine.specs.declared.way.Way.{Way}
 use Rattle.clnp_machine.specs.System.{Output, SendsEsis, SystemState}
 use Rattle.clnp_machine.specs.Unit.{Packet, value_of}
-use Rattle.system_entity.specs.Comes.{HasValue}
-use Rattle.system_entity.specs.declared.passing.Passing.{Passing}
+use Rattle.clnp_systems.specs.Comes.{HasValue}
+use Rattle.clnp_systems.specs.declared.passing.Passing.{Passing}
 
 -- the tests in another grouping
 grouped : (some back towards_it first there : Bool) → ((some && (back && (towards_it && first))) && there) ≡ (some && (back && (towards_it && (first && there))))

@@ -7,9 +7,9 @@ use Rattle.clnp_machine.specs.Content.{Content}
 use Rattle.clnp_machine.specs.Given.{Appends}
 use Rattle.clnp_machine.specs.System as machine
 use Rattle.clnp_machine.proofs.Given.{appends_whatever_came}
-use Rattle.system_entity.specs.Steps.{AppendsOf, input_with}
-use Rattle.system_entity.specs.declared.input.Input.{Input}
-use Rattle.system_entity.specs.declared.input.Input.TheVariants.{Moment, Frame, Send, Echo, Restart, Congest}
+use Rattle.clnp_systems.specs.Steps.{AppendsOf, input_with}
+use Rattle.clnp_systems.specs.declared.input.Input.{Input}
+use Rattle.clnp_systems.specs.declared.input.Input.TheVariants.{Moment, Frame, Send, Echo, Restart, Congest}
 
 -- it is what a system gives out where a frame came
 pub gives_any : (input : Input) (role : Role) (content : Content) (moment : ℕ) (before after : List Output) (others : List machine.Output)

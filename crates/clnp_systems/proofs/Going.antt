@@ -11,10 +11,10 @@ use Rattle.clnp_machine.specs.ClnpViews.Extent.{Extent, part, seen, whole}
 use Rattle.clnp_machine.specs.PduHeader.Headers.{SpellsHeader, with_lifetime, with_options}
 use Rattle.clnp_machine.specs.PduHeader.Spelling.{header, segment_length}
 use Rattle.clnp_machine.specs.PduHeader.Value.{PduValue}
-use Rattle.clnp_machine.specs.Segmenter.declared.cuts.Cut.{Cut}
-use Rattle.clnp_machine.specs.Segmenter.declared.cuts.NotPermitted.{NotPermitted}
-use Rattle.clnp_machine.specs.Segmenter.Cut as segmenter
-use Rattle.clnp_machine.specs.Segmenter.Cut.{Piece, given}
+use Rattle.clnp_machine.specs.MadePdus.declared.cuts.Cut.{Cut}
+use Rattle.clnp_machine.specs.MadePdus.declared.cuts.NotPermitted.{NotPermitted}
+use Rattle.clnp_machine.specs.MadePdus.Cut as segmenter
+use Rattle.clnp_machine.specs.MadePdus.Cut.{Piece, given}
 use Rattle.clnp_machine.specs.ClnpPlan.declared.config.PortConfig.{PortConfig}
 use Rattle.clnp_machine.specs.Content.{Labelled}
 use Rattle.clnp_machine.specs.Given.{GiveAll, IsSentOnFor}
@@ -24,10 +24,10 @@ use Rattle.clnp_machine.specs.declared.way.Way.{Way}
 use Rattle.clnp_machine.specs.System.{Effect, Output, SystemState, Transmits}
 use Rattle.clnp_machine.specs.Unit.{IsCarriable, Packet, cut, value_of}
 use Rattle.clnp_machine.proofs.Pieces.{AreBoth, AreThese, IsThis, cut_both}
-use Rattle.system_entity.specs.LocalEntity.Sending.{piece_frame, transmission}
-use Rattle.system_entity.proofs.LocalEntity.Sent.{CutsSay, IsAnswer, piece_octets}
-use Rattle.system_entity.specs.Comes.{HasValue}
-use Rattle.system_entity.specs.declared.passing.Passing.{Passing}
+use Rattle.clnp_systems.specs.Sending.{piece_frame, transmission}
+use Rattle.clnp_systems.proofs.Sent.{CutsSay, IsAnswer, piece_octets}
+use Rattle.clnp_systems.specs.Comes.{HasValue}
+use Rattle.clnp_systems.specs.declared.passing.Passing.{Passing}
 use Rattle.clnp_systems.specs.Router.Onward.{GoesOn, life_left}
 use Rattle.clnp_systems.specs.declared.onward.Onward.{Onward}
 pub use Rattle.clnp_machine.proofs.Given.{appends_whatever_came, appends_both, appends_none}

@@ -13,8 +13,8 @@ use Rattle.clnp_machine.specs.Local.{is_own, receive, tells}
 use Rattle.clnp_machine.specs.Step.{content_comes, discards, effect_of, is_asked_for, packet_comes, passes_by, responds}
 use Rattle.clnp_machine.specs.System.{Effect, Notes, SystemState, gives, idles, then_does}
 use Rattle.clnp_machine.specs.Unit.{Packet}
-use Rattle.system_entity.specs.Comes.{IsForOther}
-use Rattle.system_entity.specs.declared.passing.Passing.{Passing}
+use Rattle.clnp_systems.specs.Comes.{IsForOther}
+use Rattle.clnp_systems.specs.declared.passing.Passing.{Passing}
 
 -- nobody was asked for by a packet for another address
 asks_no_other : (group over own : Bool) → own ≡ false → (group && (not over && own)) ≡ false

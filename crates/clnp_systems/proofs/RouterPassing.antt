@@ -13,7 +13,7 @@ use Rattle.clnp_machine.specs.Local.{is_own, receive}
 use Rattle.clnp_machine.specs.Step.{content_comes, discards, effect_of, goes_on, packet_comes, passes_by, responds}
 use Rattle.clnp_machine.specs.System.{Effect, SystemState}
 use Rattle.clnp_machine.specs.Unit.{Packet}
-use Rattle.system_entity.proofs.Receipt.{responds_stays, router_is_quiet}
+use Rattle.clnp_systems.proofs.Receipt.{responds_stays, router_is_quiet}
 
 -- it is all that is done
 

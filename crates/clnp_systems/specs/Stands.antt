@@ -3,8 +3,8 @@ use Rattle.clnp_machine.specs.System.{SystemState}
 use Rattle.clnp_machine.specs.ClnpPlan.Configuration.{SystemConfiguration}
 use Rattle.clnp_machine.specs.ClnpPlan.declared.config.Role.{Role}
 use Rattle.clnp_machine.specs.ClnpPlan.declared.config.Role.TheVariants as role
-use Rattle.system_entity.specs.State.{SystemEntityState}
-use Rattle.system_entity.specs.Stands as entity
+use Rattle.clnp_systems.specs.EntityState.{SystemEntityState}
+use Rattle.clnp_systems.specs.EntityStands as entity
 use Rattle.clnp_systems.specs.declared.system.System.{System}
 use Rattle.clnp_systems.specs.declared.system.System.TheVariants.{Host, Router}
 

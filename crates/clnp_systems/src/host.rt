@@ -15,10 +15,11 @@ ghost use Rattle.clnp_machine.specs.Local.{refusal, request_unit, unit_of};
 ghost use Rattle.clnp_machine.specs.Step.{next_hop, step};
 ghost use Rattle.clnp_machine.specs.declared.way.Hop.{Hop};
 ghost use Rattle.clnp_machine.specs.System.{SystemState, AsksForEcho, AsksToSend, FrameComes, IsChanged, IsRestarted, IsCongested, MomentComes, first_state, next_number};
-ghost use Rattle.system_entity.specs.LocalEntity.Local.{IsWhy};
-ghost use Rattle.system_entity.specs.Steps.{Carries, IsSpentIn, MayCome, TakesStep, input_with};
+ghost use Rattle.clnp_systems.specs.Local.{IsWhy};
+ghost use Rattle.clnp_systems.specs.Steps.{Carries, IsSpentIn, MayCome, TakesStep, input_with};
 ghost use Rattle.clnp_systems.specs.EndSystem.Stands.{IsLeftBy, Stands};
 
+use crate::{Arrival, Input, SystemEntity};
 use clnp_machine::base::NoMemory;
 use clnp_machine::clnp::Kind;
 use clnp_machine::hearing::Neighbour;
@@ -27,7 +28,6 @@ use clnp_machine::system_plan::{Ask, Limits, Note, Output, PortConfig, SendRefus
 use clnp_machine::views::Frame;
 use std::alloc::Global;
 use std::marker::Model;
-use system_entity::{Arrival, Input, SystemEntity};
 
 /// A host. Its moment is that of its last `tick`, or of its start.
 ///
@@ -43,7 +43,7 @@ impl Model for EndSystem {
     ghost use Rattle.std.specs.Prelude.{◌≡◌};
     ghost use Rattle.clnp_machine.specs.ClnpPlan.declared.config.Role.TheVariants.{Host};
     ghost use Rattle.std.specs.Coded.{codes};
-    ghost use Rattle.system_entity.specs.contracts.entity.SystemEntity.{the_row as row_of_entities};
+    ghost use Rattle.clnp_systems.specs.contracts.entity.SystemEntity.{the_row as row_of_entities};
     ghost use Rattle.clnp_systems.specs.EndSystem.State.{HostState};
 
     ghost Value = { HostState };

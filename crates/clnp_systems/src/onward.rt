@@ -6,15 +6,15 @@ ghost use Rattle.clnp_machine.specs.PduHeader.Headers.{SpellsHeader, with_option
 ghost use Rattle.clnp_machine.specs.System.{SystemState};
 ghost use Rattle.clnp_machine.specs.Unit.{IsCarriable, Packet, value_of};
 ghost use Rattle.clnp_machine.specs.EsisTables.declared.fact.Neighbour.{Neighbour};
-ghost use Rattle.system_entity.specs.Comes.{HasValue};
+ghost use Rattle.clnp_systems.specs.Comes.{HasValue};
 ghost use Rattle.clnp_systems.specs.Router.Onward.{ComesTo, IsHeaderOver, life_left};
 
+use crate::Passing;
 use clnp_machine::clnp::Header;
 use clnp_machine::laws;
 use clnp_machine::options::Reason;
 use clnp_machine::system_plan::PortConfig;
 use clnp_machine::way::Way;
-use system_entity::Passing;
 
 /// The way of a PDU, whether it is the way to a title of a source route, and the MTU there. Its header stands elsewhere, so that
 /// it isn't moved with them.

@@ -2,9 +2,9 @@
 ghost use Rattle.std.specs.Prelude.{◌≡◌, ◌==◌, ◌&&◌, not};
 ghost use Rattle.clnp_machine.specs.Step.{is_at};
 
+use crate::Passing;
 use clnp_machine::hearing::Neighbour;
 use clnp_machine::way::Way;
-use system_entity::Passing;
 
 /// Whether a PDU that came from a place and goes on by a way may call for a redirect: redirects hold for a time, it goes on by
 /// the port by which it came, not towards a title of a source route, and it begins its unit.

@@ -18,15 +18,16 @@ ghost use Rattle.clnp_machine.specs.PduHeader.Headers.{SpellsHeader, with_option
 ghost use Rattle.clnp_machine.specs.System.{Effect, SystemState, AsksForEcho, FrameComes, IsChanged, IsRestarted, IsCongested, MomentComes, first_state, next_number};
 ghost use Rattle.clnp_machine.specs.Unit.{IsCarriable, Packet, value_of, wire};
 ghost use Rattle.clnp_machine.specs.PduHeader.Value.{PduValue};
-ghost use Rattle.system_entity.specs.LocalEntity.Local.{IsWhy};
-ghost use Rattle.system_entity.specs.Comes.{HasValue, IsAtFront};
+ghost use Rattle.clnp_systems.specs.Local.{IsWhy};
+ghost use Rattle.clnp_systems.specs.Comes.{HasValue, IsAtFront};
 ghost use Rattle.clnp_systems.specs.Router.Onward.{ComesTo, GoesOn, IsHeaderOver};
-ghost use Rattle.system_entity.specs.Steps.{Carries, IsSpentIn, MayCome, TakesStep, input_with};
+ghost use Rattle.clnp_systems.specs.Steps.{Carries, IsSpentIn, MayCome, TakesStep, input_with};
 ghost use Rattle.clnp_systems.specs.Router.Stands.{IsLeftBy, Stands};
 
 use crate::onward::{Onward, by_port};
 use crate::passage::{behind, is_barred, is_off_route, no_way, towards};
 use crate::redirecting::{is_at, may_be_redirected};
+use crate::{Arrival, Input, Passing, SystemEntity};
 use clnp_machine::base::NoMemory;
 use clnp_machine::clnp::Header;
 use clnp_machine::hearing::Neighbour;
@@ -40,7 +41,6 @@ use clnp_machine::views::Frame;
 use clnp_machine::way::Way;
 use std::alloc::Global;
 use std::marker::Model;
-use system_entity::{Arrival, Input, Passing, SystemEntity};
 
 /// A router. Its moment is that of its last `tick`, or of its start.
 ///
@@ -56,7 +56,7 @@ impl Model for Router {
     ghost use Rattle.std.specs.Prelude.{◌≡◌};
     ghost use Rattle.clnp_machine.specs.ClnpPlan.declared.config.Role.TheVariants.{Router as IsRouter};
     ghost use Rattle.std.specs.Coded.{codes};
-    ghost use Rattle.system_entity.specs.contracts.entity.SystemEntity.{the_row as row_of_entities};
+    ghost use Rattle.clnp_systems.specs.contracts.entity.SystemEntity.{the_row as row_of_entities};
     ghost use Rattle.clnp_systems.specs.Router.State.{RouterState};
 
     ghost Value = { RouterState };

@@ -8,10 +8,11 @@ ghost use Rattle.clnp_machine.specs.Content.{Content};
 ghost use Rattle.clnp_machine.specs.Forwarding.Distinct.{has_prefix};
 ghost use Rattle.clnp_machine.specs.Step.{step};
 ghost use Rattle.clnp_machine.specs.System.{SystemState, IsChanged, first_state};
-ghost use Rattle.system_entity.specs.Steps.{Carries, IsSpentIn, MayCome, TakesStep, input_with};
+ghost use Rattle.clnp_systems.specs.Steps.{Carries, IsSpentIn, MayCome, TakesStep, input_with};
 ghost use Rattle.clnp_systems.specs.declared.system.System.TheVariants as variant;
 ghost use Rattle.clnp_systems.specs.Stands.{Stands, configuration_of, entity_of, role_of};
 
+use crate::Input;
 use crate::host::EndSystem;
 use crate::router::Router;
 use clnp_machine::base::NoMemory;
@@ -19,7 +20,6 @@ use clnp_machine::nsaps::Prefix;
 use clnp_machine::routing::Route;
 use clnp_machine::system_plan::{Limits, Output, PortConfig, Role, SystemConfig};
 use std::alloc::Global;
-use system_entity::Input;
 
 /// A host or a router.
 #[derive(Drop)]

@@ -15,8 +15,8 @@ use Rattle.clnp_network.specs.LabelledNetwork as network
 use Rattle.clnp_systems.specs.declared.system.System.{System}
 use Rattle.clnp_systems.specs.Stands as clnp_systems
 use Rattle.clnp_systems.specs.Stands.{entity_of}
-use Rattle.clnp_systems.specs.SystemEntity.Steps.{AppendsOf, TakesStep, input_with, moment_at}
-use Rattle.clnp_systems.specs.SystemEntity.declared.input.Input.{Input}
+use Rattle.clnp_systems.specs.Steps.{AppendsOf, TakesStep, input_with, moment_at}
+use Rattle.clnp_systems.specs.declared.input.Input.{Input}
 use Rattle.clnp_systems.proofs.Given.{gives_any}
 use Rattle.clnp_machine.specs.Content.{Content, Unlabelled}
 use Rattle.clnp_machine.specs.Unit.{DeclaredAt}

@@ -1,6 +1,6 @@
 //! An echo reply that is known from elsewhere, and data that answer its request.
 
-use echo::{matches, needs_id, reply};
+use made_pdus::{matches, needs_id, reply};
 use pdu_header::{Header, decode};
 
 /// An echo request of lifetime 64 from 47002702 to 47002701 with the data 6869.

@@ -1,6 +1,6 @@
 //! An error report that is known from elsewhere, made and read.
 
-use error_reports::{Told, read, report};
+use made_pdus::{Told, read, report};
 use pdu_header::decode;
 use pdu_header::nsaps::Address;
 

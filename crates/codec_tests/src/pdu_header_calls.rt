@@ -1,6 +1,6 @@
 //! Headers made and changed. All have the destination 47002701 and the source 47002702.
 ghost use Rattle.std.specs.Prelude.{◌≡◌, ℕ, IfSome};
-ghost use Rattle.segmenter.specs.PduHeader.Parts.{AreFit};
+ghost use Rattle.made_pdus.specs.PduHeader.Parts.{AreFit};
 
 use pdu_header::nsaps::Address;
 use pdu_header::options::OptionList;

@@ -3,27 +3,27 @@ use Rattle.std.proofs.Common.{◌≡◌, ℕ, ◌<◌, ◌≤◌, ◌==◌, Bool
 use Rattle.std.specs.Prelude.{slice_get, is_none}
 use Rattle.std.proofs.lemmas.Bool.{cases_Bool}
 use Rattle.std.proofs.lemmas.Option.{same_Some, slice_get_within}
-use Rattle.fair_text.specs.ClnpViews.Extent.{Extent, whole}
-use Rattle.fair_text.specs.PduHeader.Value.{PduValue, SegmentationPart}
-use Rattle.fair_text.specs.PduHeader.View.{why_refused}
-use Rattle.fair_text.specs.PduHeader.declared.pdu.Refusal.{Refusal}
-use Rattle.fair_text.proofs.ClnpBase.Choices.{is_equal}
-use Rattle.fair_text.specs.Output.{account_text, told_line}
-use Rattle.fair_text.specs.FairReassembly.declared.came.Came.{Came}
-use Rattle.fair_text.specs.FairReassembly.declared.fair.Took.TheVariants as took
-use Rattle.fair_text.specs.FairReassembly.Reassembly.declared.segment.Segment.{Segment}
-use Rattle.fair_text.specs.FairReassembly.Reassembly.declared.table.Accept.{Accept}
-use Rattle.fair_text.specs.FairReassembly.Reassembly.declared.table.Accept.TheVariants as accept
-use Rattle.fair_text.specs.FairReassembly.Reassembly.declared.table.SlotNo.{SlotNo}
-use Rattle.fair_text.specs.FairReassembly.Reassembly.declared.table.TableLimits.{TableLimits}
-use Rattle.fair_text.specs.FairReassembly.Reassembly.Buffer.{Buffer}
-use Rattle.fair_text.specs.FairReassembly.Reassembly.State.{IsWholeSlot, TableState}
-use Rattle.fair_text.specs.FairReassembly.Behind.{StandBehind, Undergoes}
-use Rattle.fair_text.specs.FairReassembly.Calls.{Accepts, IsOffered, Takes}
-use Rattle.fair_text.specs.FairReassembly.Classes.{Dead, Effect, Joined, Shares, Told, Unread, account_behind, arrives, class_buffers, class_of, comes, expire_all, offers, takes, tells, told_in}
-use Rattle.fair_text.specs.FairReassembly.Coming.{part_of, segment_in, value_in}
-use Rattle.fair_text.specs.FairReassembly.Tables.{ChangesTable, FairState, IsAt, place_of, sources_of}
-use Rattle.fair_text.proofs.FairReassembly.Changed.{changed_as, changed_then, stands_then, unchanged}
+use Rattle.fair_commands.specs.ClnpViews.Extent.{Extent, whole}
+use Rattle.fair_commands.specs.PduHeader.Value.{PduValue, SegmentationPart}
+use Rattle.fair_commands.specs.PduHeader.View.{why_refused}
+use Rattle.fair_commands.specs.PduHeader.declared.pdu.Refusal.{Refusal}
+use Rattle.fair_commands.proofs.ClnpBase.Choices.{is_equal}
+use Rattle.fair_commands.specs.Output.{account_text, told_line}
+use Rattle.fair_commands.specs.FairReassembly.declared.came.Came.{Came}
+use Rattle.fair_commands.specs.FairReassembly.declared.fair.Took.TheVariants as took
+use Rattle.fair_commands.specs.FairReassembly.Reassembly.declared.segment.Segment.{Segment}
+use Rattle.fair_commands.specs.FairReassembly.Reassembly.declared.table.Accept.{Accept}
+use Rattle.fair_commands.specs.FairReassembly.Reassembly.declared.table.Accept.TheVariants as accept
+use Rattle.fair_commands.specs.FairReassembly.Reassembly.declared.table.SlotNo.{SlotNo}
+use Rattle.fair_commands.specs.FairReassembly.Reassembly.declared.table.TableLimits.{TableLimits}
+use Rattle.fair_commands.specs.FairReassembly.Reassembly.Buffer.{Buffer}
+use Rattle.fair_commands.specs.FairReassembly.Reassembly.State.{IsWholeSlot, TableState}
+use Rattle.fair_commands.specs.FairReassembly.Behind.{StandBehind, Undergoes}
+use Rattle.fair_commands.specs.FairReassembly.Calls.{Accepts, IsOffered, Takes}
+use Rattle.fair_commands.specs.FairReassembly.Classes.{Dead, Effect, Joined, Shares, Told, Unread, account_behind, arrives, class_buffers, class_of, comes, expire_all, offers, takes, tells, told_in}
+use Rattle.fair_commands.specs.FairReassembly.Coming.{part_of, segment_in, value_in}
+use Rattle.fair_commands.specs.FairReassembly.Tables.{ChangesTable, FairState, IsAt, place_of, sources_of}
+use Rattle.fair_commands.proofs.FairReassembly.Changed.{changed_as, changed_then, stands_then, unchanged}
 use Rattle.fair_commands.specs.Frames.{GoesOn, Tells}
 use Rattle.fair_commands.proofs.Frames.{lines, tells_as, tells_one, tells_then}
 

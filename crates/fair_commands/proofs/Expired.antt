@@ -3,18 +3,18 @@ use Rattle.std.proofs.Common.{◌≡◌, ℕ, ◌<◌, List, ◌++◌, length, O
 use Rattle.std.specs.Prelude.{option_map, slice_get}
 use Rattle.std.proofs.lemmas.List.{length-map}
 use Rattle.std.proofs.lemmas.Option.{same_Some}
-use Rattle.fair_text.specs.ClnpViews.Extent.{Extent}
-use Rattle.fair_text.specs.Output.{told_line}
-use Rattle.fair_text.specs.FairReassembly.Reassembly.declared.table.Expired.{Expired}
-use Rattle.fair_text.specs.FairReassembly.Reassembly.declared.table.TableLimits.{TableLimits}
-use Rattle.fair_text.specs.FairReassembly.Reassembly.Buffer.{Buffer, due, first_carried, held, without, without_due}
-use Rattle.fair_text.specs.FairReassembly.Reassembly.NoWhole.{HasNoWhole}
-use Rattle.fair_text.specs.FairReassembly.Reassembly.State.{IsReady, Stands, TableState, opening_of}
-use Rattle.fair_text.specs.FairReassembly.Calls.{Expires}
-use Rattle.fair_text.specs.FairReassembly.Classes as classes
-use Rattle.fair_text.specs.FairReassembly.Classes.{Effect, and_then, ends, expire_all, rests}
-use Rattle.fair_text.specs.FairReassembly.Tables.{At, ChangesTable, FairState, IsAt, place_of}
-use Rattle.fair_text.proofs.FairReassembly.Changed.{changed_as, changed_then, stands_then}
+use Rattle.fair_commands.specs.ClnpViews.Extent.{Extent}
+use Rattle.fair_commands.specs.Output.{told_line}
+use Rattle.fair_commands.specs.FairReassembly.Reassembly.declared.table.Expired.{Expired}
+use Rattle.fair_commands.specs.FairReassembly.Reassembly.declared.table.TableLimits.{TableLimits}
+use Rattle.fair_commands.specs.FairReassembly.Reassembly.Buffer.{Buffer, due, first_carried, held, without, without_due}
+use Rattle.fair_commands.specs.FairReassembly.Reassembly.NoWhole.{HasNoWhole}
+use Rattle.fair_commands.specs.FairReassembly.Reassembly.State.{IsReady, Stands, TableState, opening_of}
+use Rattle.fair_commands.specs.FairReassembly.Calls.{Expires}
+use Rattle.fair_commands.specs.FairReassembly.Classes as classes
+use Rattle.fair_commands.specs.FairReassembly.Classes.{Effect, and_then, ends, expire_all, rests}
+use Rattle.fair_commands.specs.FairReassembly.Tables.{At, ChangesTable, FairState, IsAt, place_of}
+use Rattle.fair_commands.proofs.FairReassembly.Changed.{changed_as, changed_then, stands_then}
 use Rattle.fair_commands.specs.Frames.{Tells}
 use Rattle.fair_commands.proofs.Frames.{lines}
 

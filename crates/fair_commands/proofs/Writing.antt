@@ -4,13 +4,13 @@ use Rattle.std.specs.List.{flat_map}
 use Rattle.std.specs.Io.KnownBytes.{Appends}
 use Rattle.std.proofs.KnownBytes.{Appends-kept, Appends-nil, Appends-trans}
 use Rattle.std.proofs.lemmas.Grind.{flat_map-append}
-use Rattle.fair_text.specs.ClnpBase.Streams.{AppendsFront}
-use Rattle.fair_text.specs.Grammar.{Capture}
-use Rattle.fair_text.specs.Output.{account_text, end_line, frames_text, output_of}
-use Rattle.fair_text.specs.FairReassembly.declared.came.Came.{Came}
-use Rattle.fair_text.specs.FairReassembly.Behind.{StandBehind}
-use Rattle.fair_text.specs.FairReassembly.Classes.{Shares, account_behind, accounts, each_behind}
-use Rattle.fair_text.specs.FairReassembly.Tables.{FairState}
+use Rattle.fair_commands.specs.ClnpBase.Streams.{AppendsFront}
+use Rattle.fair_commands.specs.Grammar.{Capture}
+use Rattle.fair_commands.specs.Output.{account_text, end_line, frames_text, output_of}
+use Rattle.fair_commands.specs.FairReassembly.declared.came.Came.{Came}
+use Rattle.fair_commands.specs.FairReassembly.Behind.{StandBehind}
+use Rattle.fair_commands.specs.FairReassembly.Classes.{Shares, account_behind, accounts, each_behind}
+use Rattle.fair_commands.specs.FairReassembly.Tables.{FairState}
 use Rattle.command_base.specs.ByLine.{FlushOf}
 use Rattle.command_base.proofs.Fronts.{front-behind, front-longer}
 use Rattle.fair_commands.specs.declared.joining.Stop.{Stop}

@@ -1,15 +1,15 @@
 -- Frames that come, one by one: what comes over the table of each, and the lines that tell of it.
 use Rattle.std.specs.Prelude.{◌≡◌, ℕ, List, [], ◌∷◌, ◌++◌}
 use Rattle.std.specs.List.{flat_map}
-use Rattle.fair_text.specs.ClnpViews.Extent.{Extent}
-use Rattle.fair_text.specs.Output.{account_text, told_line}
-use Rattle.fair_text.specs.FairReassembly.declared.came.Came.{Came}
-use Rattle.fair_text.specs.FairReassembly.Reassembly.declared.table.TableLimits.{TableLimits}
-use Rattle.fair_text.specs.FairReassembly.Reassembly.Buffer.{Buffer}
-use Rattle.fair_text.specs.FairReassembly.Reassembly.State.{Stands, TableState}
-use Rattle.fair_text.specs.FairReassembly.Behind.{StandBehind, Undergoes}
-use Rattle.fair_text.specs.FairReassembly.Classes.{Effect, Shares, account_behind}
-use Rattle.fair_text.specs.FairReassembly.Tables.{FairState}
+use Rattle.fair_commands.specs.ClnpViews.Extent.{Extent}
+use Rattle.fair_commands.specs.Output.{account_text, told_line}
+use Rattle.fair_commands.specs.FairReassembly.declared.came.Came.{Came}
+use Rattle.fair_commands.specs.FairReassembly.Reassembly.declared.table.TableLimits.{TableLimits}
+use Rattle.fair_commands.specs.FairReassembly.Reassembly.Buffer.{Buffer}
+use Rattle.fair_commands.specs.FairReassembly.Reassembly.State.{Stands, TableState}
+use Rattle.fair_commands.specs.FairReassembly.Behind.{StandBehind, Undergoes}
+use Rattle.fair_commands.specs.FairReassembly.Classes.{Effect, Shares, account_behind}
+use Rattle.fair_commands.specs.FairReassembly.Tables.{FairState}
 
 -- An effect came over a table at a moment, and the lines that tell of it were appended.
 pub record Tells (effect : TableLimits → List (Buffer Extent) → Effect) (moment : ℕ) (before after : List ℕ) (old new : TableState) : Type 0 where

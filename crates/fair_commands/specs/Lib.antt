@@ -1,4 +1,14 @@
-pub use Rattle.fair_text.specs as FairText
+pub use Rattle.scenario.specs as Scenario
+pub use Rattle.scenario.specs.ClnpBase
+pub use Rattle.scenario.specs.ClnpPlan.ClnpViews
+pub use Rattle.scenario.specs.PduHeader
+pub use Rattle.fair_reassembly.specs as FairReassembly
 pub mod Frames
 pub mod Reassemble
 pub mod Writing
+pub mod Claims
+pub mod Fair
+pub mod Grammar
+pub mod Output
+pub mod Refusal
+pub mod Telling

@@ -1,12 +1,12 @@
 -- What a text of captured traffic calls for.
 use Rattle.std.specs.Prelude.{◌≡◌, ℕ, List, [], ◌++◌, Option, Result, Ok, Err, IfOk, IsOk}
 use Rattle.std.specs.Io.KnownBytes.{Appends}
-use Rattle.fair_text.specs.ClnpBase.Streams.{AppendsFront}
-use Rattle.fair_text.specs.Output.{frames_text, output_of}
-use Rattle.fair_text.specs.Grammar.{Capture, capture_of}
-use Rattle.fair_text.specs.Scenario.Grammar.{BadLine}
-use Rattle.fair_text.specs.FairReassembly.declared.came.Came.{Came}
-use Rattle.fair_text.specs.FairReassembly.Classes.{Shares}
+use Rattle.fair_commands.specs.ClnpBase.Streams.{AppendsFront}
+use Rattle.fair_commands.specs.Output.{frames_text, output_of}
+use Rattle.fair_commands.specs.Grammar.{Capture, capture_of}
+use Rattle.fair_commands.specs.Scenario.Grammar.{BadLine}
+use Rattle.fair_commands.specs.FairReassembly.declared.came.Came.{Came}
+use Rattle.fair_commands.specs.FairReassembly.Classes.{Shares}
 use Rattle.command_base.specs.declared.status.Status.{Status}
 use Rattle.command_base.specs.declared.status.Status.TheVariants.{Done, BadInput}
 use Rattle.command_base.specs.ComesAs.{Task}

@@ -1,13 +1,13 @@
 -- Lines that are written in blocks, each of the lines of whole frames.
 use Rattle.std.specs.Prelude.{◌≡◌, ℕ, List, ◌++◌, Option, Result, Ok, Err}
 use Rattle.std.specs.Io.KnownBytes.{Appends, Keeps}
-use Rattle.fair_text.specs.ClnpBase.Streams.{AppendsFront}
-use Rattle.fair_text.specs.Grammar.{Capture}
-use Rattle.fair_text.specs.Output.{frames_text, output_of}
-use Rattle.fair_text.specs.FairReassembly.declared.came.Came.{Came}
-use Rattle.fair_text.specs.FairReassembly.Behind.{StandBehind}
-use Rattle.fair_text.specs.FairReassembly.Classes.{Shares}
-use Rattle.fair_text.specs.FairReassembly.Tables.{FairState}
+use Rattle.fair_commands.specs.ClnpBase.Streams.{AppendsFront}
+use Rattle.fair_commands.specs.Grammar.{Capture}
+use Rattle.fair_commands.specs.Output.{frames_text, output_of}
+use Rattle.fair_commands.specs.FairReassembly.declared.came.Came.{Came}
+use Rattle.fair_commands.specs.FairReassembly.Behind.{StandBehind}
+use Rattle.fair_commands.specs.FairReassembly.Classes.{Shares}
+use Rattle.fair_commands.specs.FairReassembly.Tables.{FairState}
 use Rattle.fair_commands.specs.declared.joining.Stop.{Stop}
 use Rattle.fair_commands.specs.declared.joining.Stop.TheVariants.{WriteFault, NoMemory}
 use Rattle.fair_commands.specs.Reassemble.{AppendsFrames}

@@ -1,32 +1,32 @@
 //! Frames that come, one by one, and the lines that tell what comes of them.
 ghost use Rattle.std.specs.Prelude.{◌≡◌, ◌≢◌, ◌++◌, ◌^◌, ◌<◌, ◌≤◌, ℕ, List, None, Some, IfOk, OnOk, length};
-ghost use Rattle.fair_text.specs.Claims.{IsInRange};
-ghost use Rattle.fair_text.specs.Output.{told_line};
-ghost use Rattle.fair_text.specs.Telling.{told_by};
-ghost use Rattle.fair_text.specs.ClnpViews.Extent.{Extent};
-ghost use Rattle.fair_text.specs.PduHeader.Grammar.{BeginsWith};
-ghost use Rattle.fair_text.specs.PduHeader.View.{part_value, pdu_value, why_refused};
-ghost use Rattle.fair_text.specs.FairReassembly.declared.came.Came.{Came as CameOf};
-ghost use Rattle.fair_text.specs.FairReassembly.Reassembly.declared.segment.Key.{Key};
-ghost use Rattle.fair_text.specs.FairReassembly.Reassembly.declared.segment.Segment.{Segment};
-ghost use Rattle.fair_text.specs.FairReassembly.Reassembly.Arrival.{octet_in};
-ghost use Rattle.fair_text.specs.FairReassembly.Reassembly.Buffer as buffer;
-ghost use Rattle.fair_text.specs.FairReassembly.Reassembly.Buffer.{Buffer};
-ghost use Rattle.fair_text.specs.FairReassembly.Reassembly.NoWhole.{HasNoWhole};
-ghost use Rattle.fair_text.specs.FairReassembly.Reassembly.State.{IsReady, IsWholeSlot, Names, Stands, said};
-ghost use Rattle.fair_text.specs.FairReassembly.Behind.{StandBehind};
-ghost use Rattle.fair_text.specs.FairReassembly.Calls.{Accepts, Releases};
-ghost use Rattle.fair_text.specs.FairReassembly.Classes as classes;
-ghost use Rattle.fair_text.specs.FairReassembly.Classes.{Shares, arrives, comes, expire_all, offers, takes_in, tells};
-ghost use Rattle.fair_text.specs.FairReassembly.Coming.{value_in};
-ghost use Rattle.fair_text.specs.FairReassembly.Tables.{At, ChangesTable, FairState, IsAt, place_of};
+ghost use Rattle.fair_commands.specs.Claims.{IsInRange};
+ghost use Rattle.fair_commands.specs.Output.{told_line};
+ghost use Rattle.fair_commands.specs.Telling.{told_by};
+ghost use Rattle.fair_commands.specs.ClnpViews.Extent.{Extent};
+ghost use Rattle.fair_commands.specs.PduHeader.Grammar.{BeginsWith};
+ghost use Rattle.fair_commands.specs.PduHeader.View.{part_value, pdu_value, why_refused};
+ghost use Rattle.fair_commands.specs.FairReassembly.declared.came.Came.{Came as CameOf};
+ghost use Rattle.fair_commands.specs.FairReassembly.Reassembly.declared.segment.Key.{Key};
+ghost use Rattle.fair_commands.specs.FairReassembly.Reassembly.declared.segment.Segment.{Segment};
+ghost use Rattle.fair_commands.specs.FairReassembly.Reassembly.Arrival.{octet_in};
+ghost use Rattle.fair_commands.specs.FairReassembly.Reassembly.Buffer as buffer;
+ghost use Rattle.fair_commands.specs.FairReassembly.Reassembly.Buffer.{Buffer};
+ghost use Rattle.fair_commands.specs.FairReassembly.Reassembly.NoWhole.{HasNoWhole};
+ghost use Rattle.fair_commands.specs.FairReassembly.Reassembly.State.{IsReady, IsWholeSlot, Names, Stands, said};
+ghost use Rattle.fair_commands.specs.FairReassembly.Behind.{StandBehind};
+ghost use Rattle.fair_commands.specs.FairReassembly.Calls.{Accepts, Releases};
+ghost use Rattle.fair_commands.specs.FairReassembly.Classes as classes;
+ghost use Rattle.fair_commands.specs.FairReassembly.Classes.{Shares, arrives, comes, expire_all, offers, takes_in, tells};
+ghost use Rattle.fair_commands.specs.FairReassembly.Coming.{value_in};
+ghost use Rattle.fair_commands.specs.FairReassembly.Tables.{At, ChangesTable, FairState, IsAt, place_of};
 ghost use Rattle.fair_commands.specs.Frames.{GoesOn, Tells};
 
+use crate::clnp::{Pdu, SegPart, decode_frame};
+use crate::fair::{Accept, Came, FairTable, SlotNo, Took, laws};
+use crate::nsaps::Address;
+use crate::{Told, push_told};
 use command_base::base::NoMemory;
-use fair_text::clnp::{Pdu, SegPart, decode_frame};
-use fair_text::fair::{Accept, Came, FairTable, SlotNo, Took, laws};
-use fair_text::nsaps::Address;
-use fair_text::{Told, push_told};
 use std::alloc::Global;
 
 /// Takes in a frame, and appends the lines that tell what comes of it.

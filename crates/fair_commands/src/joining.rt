@@ -1,25 +1,25 @@
 //! The command `reassemble`: the units of captured traffic, joined with a share of reassembly for each of some sources.
 ghost use Rattle.std.specs.Prelude.{◌≡◌, ◌≤◌, ◌++◌, ◌∷◌, ℕ, List, Option, [], length};
 ghost use Rattle.std.specs.List.{AllByRecursion};
-ghost use Rattle.fair_text.specs.ClnpBase.Streams.{Rose};
-ghost use Rattle.fair_text.specs.Claims.{IsAccepted, IsInRange};
-ghost use Rattle.fair_text.specs.Output.{end_line};
-ghost use Rattle.fair_text.specs.FairReassembly.declared.came.Came.{Came as CameOf};
-ghost use Rattle.fair_text.specs.FairReassembly.Reassembly.NoWhole.{HasNoWhole};
-ghost use Rattle.fair_text.specs.FairReassembly.Behind.{StandBehind};
-ghost use Rattle.fair_text.specs.FairReassembly.Classes.{Shares};
-ghost use Rattle.fair_text.specs.FairReassembly.Tables.{At};
+ghost use Rattle.fair_commands.specs.ClnpBase.Streams.{Rose};
+ghost use Rattle.fair_commands.specs.Claims.{IsAccepted, IsInRange};
+ghost use Rattle.fair_commands.specs.Output.{end_line};
+ghost use Rattle.fair_commands.specs.FairReassembly.declared.came.Came.{Came as CameOf};
+ghost use Rattle.fair_commands.specs.FairReassembly.Reassembly.NoWhole.{HasNoWhole};
+ghost use Rattle.fair_commands.specs.FairReassembly.Behind.{StandBehind};
+ghost use Rattle.fair_commands.specs.FairReassembly.Classes.{Shares};
+ghost use Rattle.fair_commands.specs.FairReassembly.Tables.{At};
 ghost use Rattle.command_base.specs.ComesAs.{ComesAs, most_input};
 ghost use Rattle.fair_commands.specs.Reassemble.{reassemble_task};
 ghost use Rattle.fair_commands.specs.Writing.{EndOf, JoinOf, TakenOf, UnderWay};
 
+use crate::fair::laws::what_is_told_goes_on;
+use crate::fair::{Came, FairTable};
 use crate::frame::push_frame;
+use crate::laws::an_accepted_text_is_in_range;
+use crate::{Capture, CaptureRefusal, push_end, read};
 use command_base::base::{Failed, Sink, lines};
 use command_base::{Status, flush, flush_full};
-use fair_text::fair::laws::what_is_told_goes_on;
-use fair_text::fair::{Came, FairTable};
-use fair_text::laws::an_accepted_text_is_in_range;
-use fair_text::{Capture, CaptureRefusal, push_end, read};
 use std::alloc::Global;
 
 /// Writes the lines that tell what comes of each frame of captured traffic, in the order of the frames, and the last line.

@@ -6,8 +6,8 @@ use Rattle.clnp_machine.specs.ClnpPlan.declared.output.Output.TheVariants.{Trans
 use Rattle.clnp_machine.specs.Content.{Content}
 use Rattle.clnp_machine.specs.Given.{GiveAll, Gives}
 use Rattle.clnp_machine.specs.System as machine
-use Rattle.clnp_systems.specs.SystemEntity.Steps.{AppendsOf, input_with}
-use Rattle.clnp_systems.specs.SystemEntity.declared.input.Input.{Input}
+use Rattle.clnp_systems.specs.Steps.{AppendsOf, input_with}
+use Rattle.clnp_systems.specs.declared.input.Input.{Input}
 use Rattle.clnp_systems.proofs.Given.{gives_any}
 use Rattle.live_node.specs.Outputs.{PutAllOut, PutsOut}
 

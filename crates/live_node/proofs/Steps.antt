@@ -22,8 +22,8 @@ use Rattle.clnp_machine.specs.Unit.{wire}
 use Rattle.clnp_machine.specs.System as machine
 use Rattle.clnp_machine.specs.System.{number_behind}
 use Rattle.clnp_systems.specs.Stands as clnp_systems
-use Rattle.clnp_systems.specs.SystemEntity.Steps.{TakesStep, input_with, moment_at}
-use Rattle.clnp_systems.specs.SystemEntity.declared.input.Input.{Input}
+use Rattle.clnp_systems.specs.Steps.{TakesStep, input_with, moment_at}
+use Rattle.clnp_systems.specs.declared.input.Input.{Input}
 use Rattle.clnp_systems.specs.declared.system.System.{System}
 use Rattle.link_board.specs.ClnpBase.Streams.{AppendsFront}
 use Rattle.link_board.specs.Links.{CameFrame, FailedOnce, LinkState, Looked, SentFrame, SentOne}

@@ -3,7 +3,7 @@ ghost use Rattle.std.specs.Prelude.{◌≡◌, ◌≤◌, ◌<◌, ◌^◌, ◌+
 ghost use Rattle.clnp_machine.specs.Content.{Content};
 ghost use Rattle.clnp_machine.specs.System.{first_state};
 ghost use Rattle.clnp_systems.specs.Stands as clnp_systems;
-ghost use Rattle.clnp_systems.specs.SystemEntity.Steps.{Carries, MayCome, input_with, moment_at};
+ghost use Rattle.clnp_systems.specs.Steps.{Carries, MayCome, input_with, moment_at};
 ghost use Rattle.clnp_machine.specs.ClnpBase.Streams.{Rose};
 ghost use Rattle.live_model.specs.Node as model;
 ghost use Rattle.live_node.specs.Plays.{Breaks, Plays, Stands};

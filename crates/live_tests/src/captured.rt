@@ -3,7 +3,7 @@
 use crate::running::{new_sink, run};
 use link_board::base::NoMemory;
 use link_board::{Board, Link};
-use pcap_link::PcapLink;
+use pcap_frames::PcapLink;
 use std::alloc::Global;
 use std::mem::forget;
 

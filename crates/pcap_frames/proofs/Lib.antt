@@ -13,3 +13,7 @@ pub mod NumberFacts
 pub mod OneReading
 pub mod RecordFacts
 pub mod Steps
+pub mod Looks
+pub mod MadeFrames
+pub mod Starting
+pub mod Walking

@@ -9,3 +9,6 @@ pub mod Numbers
 pub mod Reading
 pub mod Stages
 pub mod View
+pub mod PlayedFrames
+pub mod Playing
+pub mod Walk

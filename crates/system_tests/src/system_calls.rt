@@ -5,11 +5,10 @@ use crate::network::{
 use clnp_machine::nsaps::Snpa;
 use clnp_machine::system_plan::{Limits, Note, Output, Role, SystemConfig};
 use clnp_machine::views::Frame;
-use clnp_systems::System;
+use clnp_systems::{Input, System};
 use std::alloc::Global;
 use std::mem::forget;
 use std::process::Abort;
-use system_entity::Input;
 
 /// The system behind its first moment, in which it says nothing.
 fn system_of(rt: &impl Abort, alloc: Global, config: &SystemConfig, limits: &Limits) -> System {

@@ -15,7 +15,7 @@ pub mod links {
 
 /// The words that name a link.
 pub mod words {
-    pub use link_words::{End, LinkEnds, Peer, Role, is_link_word};
+    pub use link_board::{End, LinkEnds, Peer, Role, is_link_word};
 }
 
 /// Addresses on a subnetwork.

@@ -1,8 +1,7 @@
 //! What is done with a socket: one look, one datagram.
 ghost use Rattle.std.specs.Prelude.{◌≡◌, ◌≤◌, length};
 
-use link_board::Got;
-use link_words::End;
+use link_board::{End, Got};
 use std::io::ErrorKind;
 use std::net::{Ipv4Addr, SocketAddr, SocketAddrV4, UdpSocket};
 

@@ -1,14 +1,13 @@
 //! A link over UDP.
 ghost use Rattle.std.specs.Prelude.{◌≡◌, ◌+◌, ◌≤◌, ◌++◌, length, nat_le, true, vec_capacity, None, IfOk};
 ghost use Rattle.link_board.specs.Links.{PollOf, SendOf};
-ghost use Rattle.link_words.specs.Words.{is_link_word};
+ghost use Rattle.link_board.specs.Words.{is_link_word};
 
 use crate::socket::{Gift, Look, MOST, address_of, give, look_at};
 use crate::traffic::Traffic;
 use link_board::base::{Failed, NoMemory};
 use link_board::nsaps::Target;
-use link_board::{Got, Link};
-use link_words::{End, LinkEnds, Role};
+use link_board::{End, Got, Link, LinkEnds, Role};
 use std::net::{Net, UdpSocket};
 use std::rt::Clock;
 use std::thread;

@@ -1,7 +1,7 @@
 -- What a host of the code stands for.
 use Rattle.clnp_machine.specs.ClnpPlan.declared.ask.SendRefusal.{SendRefusal}
 use Rattle.clnp_machine.specs.System.{SystemState}
-use Rattle.system_entity.specs.Stands as entity
+use Rattle.clnp_systems.specs.EntityStands as entity
 use Rattle.clnp_systems.specs.EndSystem.State.{HostState}
 
 -- a host stands for the state of a system, whatever its place

@@ -1,7 +1,7 @@
 -- What a router of the code stands for.
 use Rattle.clnp_machine.specs.ClnpPlan.declared.ask.SendRefusal.{SendRefusal}
 use Rattle.clnp_machine.specs.System.{SystemState}
-use Rattle.system_entity.specs.Stands as entity
+use Rattle.clnp_systems.specs.EntityStands as entity
 use Rattle.clnp_systems.specs.Router.State.{RouterState}
 
 -- a router stands for the state of a system, whatever its place

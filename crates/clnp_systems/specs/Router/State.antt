@@ -1,5 +1,5 @@
 -- What a contract sees of a router.
-use Rattle.system_entity.specs.State.{SystemEntityState}
+use Rattle.clnp_systems.specs.EntityState.{SystemEntityState}
 
 pub record RouterState : Type 0 where
   pub entity : SystemEntityState

@@ -3,7 +3,7 @@ ghost use Rattle.std.specs.Prelude.{◌≡◌, ◌≤◌, [], OnOk, Some, slice_
 ghost use Rattle.clnp_machine.specs.Content.{Content};
 ghost use Rattle.clnp_network.specs.LabelledNetwork as network;
 ghost use Rattle.clnp_systems.specs.Stands.{entity_of};
-ghost use Rattle.clnp_systems.specs.SystemEntity.Steps.{Carries, MayCome, input_with};
+ghost use Rattle.clnp_systems.specs.Steps.{Carries, MayCome, input_with};
 ghost use Rattle.clnp_systems.specs.declared.system.System.{System};
 ghost use Rattle.clnp_world.specs.Parts.{Follows, Holds, IsTimely};
 ghost use Rattle.clnp_world.specs.Stands.{IsMadeWithUnit};

@@ -1,11 +1,11 @@
 use Rattle.std.proofs.Common.{◌≡◌, rules, subst}
-use Rattle.fair_text.specs.PduHeader.View.{part_value, pdu_value}
-use Rattle.fair_text.specs.Telling.{told_by}
-use Rattle.fair_text.specs.FairReassembly.Reassembly.declared.table.Accept.TheVariants as accept
-use Rattle.fair_text.specs.FairReassembly.Reassembly.declared.table.SlotNo.{SlotNo}
-use Rattle.fair_text.specs.FairReassembly.Calls.{Accepts, Releases}
-use Rattle.fair_text.specs.FairReassembly.Classes.{offers}
-use Rattle.fair_text.proofs.FairReassembly.Changed.{changed_as, changed_then}
+use Rattle.fair_commands.specs.PduHeader.View.{part_value, pdu_value}
+use Rattle.fair_commands.specs.Telling.{told_by}
+use Rattle.fair_commands.specs.FairReassembly.Reassembly.declared.table.Accept.TheVariants as accept
+use Rattle.fair_commands.specs.FairReassembly.Reassembly.declared.table.SlotNo.{SlotNo}
+use Rattle.fair_commands.specs.FairReassembly.Calls.{Accepts, Releases}
+use Rattle.fair_commands.specs.FairReassembly.Classes.{offers}
+use Rattle.fair_commands.proofs.FairReassembly.Changed.{changed_as, changed_then}
 use Rattle.fair_commands.specs.Frames.{Tells}
 use Rattle.fair_commands.proofs.Frames.{on_both, on_ok, tells_answer, tells_joined}
 use Rattle.fair_commands.proofs.frame.push_answer.Goals as goal

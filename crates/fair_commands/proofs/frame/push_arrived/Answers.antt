@@ -1,6 +1,6 @@
-use Rattle.fair_text.specs.PduHeader.View.{part_value, pdu_value}
-use Rattle.fair_text.specs.FairReassembly.Reassembly.State.{IsReady}
-use Rattle.fair_text.specs.FairReassembly.Tables.{place_of}
+use Rattle.fair_commands.specs.PduHeader.View.{part_value, pdu_value}
+use Rattle.fair_commands.specs.FairReassembly.Reassembly.State.{IsReady}
+use Rattle.fair_commands.specs.FairReassembly.Tables.{place_of}
 use Rattle.std.proofs.Common.{ap}
 use Rattle.std.specs.Prelude.{option_map}
 use Rattle.fair_commands.proofs.Arriving.{alone_arrived, dead_arrived, offer_arrived, table_within, whole_there}

@@ -1,6 +1,6 @@
 use Rattle.std.proofs.Common.{◌≡◌, ℕ, List}
-use Rattle.fair_text.specs.FairReassembly.Reassembly.NoWhole.{HasNoWhole}
-use Rattle.fair_text.specs.FairReassembly.Tables.{At, ChangesTable, FairState, place_of}
+use Rattle.fair_commands.specs.FairReassembly.Reassembly.NoWhole.{HasNoWhole}
+use Rattle.fair_commands.specs.FairReassembly.Tables.{At, ChangesTable, FairState, place_of}
 use Rattle.fair_commands.specs.Frames.{Tells}
 use Rattle.fair_commands.proofs.Expired.{expires, open_at}
 use Rattle.fair_commands.proofs.frame.push_expired.Given as goal

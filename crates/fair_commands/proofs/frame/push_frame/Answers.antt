@@ -1,6 +1,6 @@
 use Rattle.std.proofs.Common.{ap}
-use Rattle.fair_text.specs.PduHeader.Value.{PduValue}
-use Rattle.fair_text.specs.FairReassembly.Tables.{place_of}
+use Rattle.fair_commands.specs.PduHeader.Value.{PduValue}
+use Rattle.fair_commands.specs.FairReassembly.Tables.{place_of}
 use Rattle.fair_commands.proofs.Arriving.{goes_on_pdu, goes_on_unread}
 use Rattle.fair_commands.proofs.Frames.{on_ok}
 use Rattle.fair_commands.proofs.frame.push_frame.Goals as goal

@@ -1,4 +1,4 @@
-use Rattle.fair_text.specs.PduHeader.View.{pdu_value}
+use Rattle.fair_commands.specs.PduHeader.View.{pdu_value}
 use Rattle.fair_commands.proofs.Arriving.{pdu_comes}
 use Rattle.fair_commands.proofs.Frames.{on_ok}
 use Rattle.fair_commands.proofs.frame.push_pdu.Goals as goal

@@ -1,11 +1,11 @@
 use Rattle.std.proofs.Common.{◌≡◌, ◌++◌, [], ℕ, List, length, ap, ◌∙◌, subst, arith}
 use Rattle.std.proofs.lemmas.Result.{err_from_is_err_and}
-use Rattle.fair_text.specs.Grammar.{Capture}
-use Rattle.fair_text.specs.Output.{end_line}
-use Rattle.fair_text.specs.FairReassembly.declared.came.Came.{Came}
-use Rattle.fair_text.specs.FairReassembly.declared.share.Share.{Share}
-use Rattle.fair_text.specs.FairReassembly.Behind.{StandBehind}
-use Rattle.fair_text.specs.FairReassembly.Classes.{Shares}
+use Rattle.fair_commands.specs.Grammar.{Capture}
+use Rattle.fair_commands.specs.Output.{end_line}
+use Rattle.fair_commands.specs.FairReassembly.declared.came.Came.{Came}
+use Rattle.fair_commands.specs.FairReassembly.declared.share.Share.{Share}
+use Rattle.fair_commands.specs.FairReassembly.Behind.{StandBehind}
+use Rattle.fair_commands.specs.FairReassembly.Classes.{Shares}
 use Rattle.fair_commands.specs.Writing.{EndOf, StopOf, UnderWay}
 use Rattle.fair_commands.proofs.Writing.{join_ended, join_stopped}
 use Rattle.fair_commands.proofs.joining.join.Goals as goal

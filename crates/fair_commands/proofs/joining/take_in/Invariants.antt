@@ -1,6 +1,6 @@
 use Rattle.std.proofs.Common.{◌≤◌, [], take}
-use Rattle.fair_text.specs.FairReassembly.Behind.{StandBehind}
-use Rattle.fair_text.specs.FairReassembly.Classes.{Shares}
+use Rattle.fair_commands.specs.FairReassembly.Behind.{StandBehind}
+use Rattle.fair_commands.specs.FairReassembly.Classes.{Shares}
 use Rattle.fair_commands.specs.Writing.{UnderWay}
 use Rattle.fair_commands.proofs.joining.take_in.Given as goal
 

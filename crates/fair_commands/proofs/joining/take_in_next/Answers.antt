@@ -1,5 +1,5 @@
 use Rattle.std.proofs.Common.{◌++◌, ◌∷◌, []}
-use Rattle.fair_text.specs.ClnpBase.declared.streams.Failed.{Failed}
+use Rattle.fair_commands.specs.ClnpBase.declared.streams.Failed.{Failed}
 use Rattle.fair_commands.proofs.Writing.{block_written, cut_short, one_more}
 use Rattle.fair_commands.proofs.joining.take_in_next.Goals as goal
 

@@ -1,6 +1,6 @@
 -- Its entity is congested, or no more.
 use Rattle.std.proofs.Common.{sym, subst}
-use Rattle.system_entity.specs.Stands as entity
+use Rattle.clnp_systems.specs.EntityStands as entity
 use Rattle.clnp_systems.specs.EndSystem.State.{HostState}
 use Rattle.clnp_systems.proofs.host.EndSystem.congest.Goals as goal
 

@@ -1,7 +1,7 @@
 -- Its entity makes an echo request.
 use Rattle.std.proofs.Common.{sym, subst}
 use Rattle.std.proofs.lemmas.Result.{on_ok_weaker}
-use Rattle.system_entity.specs.Stands as entity
+use Rattle.clnp_systems.specs.EntityStands as entity
 use Rattle.clnp_systems.specs.EndSystem.State.{HostState}
 use Rattle.clnp_systems.proofs.host.EndSystem.echo.Goals as goal
 

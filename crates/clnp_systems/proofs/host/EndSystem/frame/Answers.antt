@@ -9,12 +9,12 @@ use Rattle.clnp_machine.specs.ClnpPlan.declared.output.Output.TheVariants.{Note}
 use Rattle.clnp_machine.specs.Given.{Appends}
 use Rattle.clnp_machine.specs.System.{Effect, FrameComes, SystemState}
 use Rattle.clnp_machine.proofs.Given.{appends_note}
-use Rattle.system_entity.specs.Comes.{ComesOf, LeavesAsItWas}
-use Rattle.system_entity.specs.Stands as entity
-use Rattle.system_entity.specs.State.{SystemEntityState}
-use Rattle.system_entity.specs.Steps.{TakesStep}
-use Rattle.system_entity.specs.declared.entity.Arrival.{Arrival}
-use Rattle.system_entity.proofs.Both.{on_ok_both}
+use Rattle.clnp_systems.specs.Comes.{ComesOf, LeavesAsItWas}
+use Rattle.clnp_systems.specs.EntityStands as entity
+use Rattle.clnp_systems.specs.EntityState.{SystemEntityState}
+use Rattle.clnp_systems.specs.Steps.{TakesStep}
+use Rattle.clnp_systems.specs.declared.entity.Arrival.{Arrival}
+use Rattle.clnp_systems.proofs.Both.{on_ok_both}
 use Rattle.clnp_systems.specs.EndSystem.State.{HostState}
 use Rattle.clnp_systems.proofs.HostPassing.{passed}
 use Rattle.clnp_systems.proofs.host.EndSystem.frame.Goals as goal

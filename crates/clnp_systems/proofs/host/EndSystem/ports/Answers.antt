@@ -1,6 +1,6 @@
 -- They are those of its entity.
 use Rattle.std.proofs.Common.{sym, subst}
-use Rattle.system_entity.specs.Stands as entity
+use Rattle.clnp_systems.specs.EntityStands as entity
 use Rattle.clnp_systems.specs.EndSystem.State.{HostState}
 use Rattle.clnp_systems.proofs.host.EndSystem.ports.Goals as goal
 

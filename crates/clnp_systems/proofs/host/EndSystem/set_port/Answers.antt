@@ -1,6 +1,6 @@
 -- The port of its entity moves.
 use Rattle.std.proofs.Common.{sym, subst}
-use Rattle.system_entity.specs.Stands as entity
+use Rattle.clnp_systems.specs.EntityStands as entity
 use Rattle.clnp_systems.specs.EndSystem.State.{HostState}
 use Rattle.clnp_systems.proofs.host.EndSystem.set_port.Goals as goal
 

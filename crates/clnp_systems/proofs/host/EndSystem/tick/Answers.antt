@@ -3,8 +3,8 @@ use Rattle.std.proofs.Common.{subst}
 use Rattle.std.proofs.lemmas.Result.{on_ok_weaker}
 use Rattle.clnp_machine.specs.ClnpPlan.declared.config.Role.TheVariants as role
 use Rattle.clnp_machine.specs.System.{MomentComes}
-use Rattle.system_entity.specs.Steps.{TakesStep}
-use Rattle.system_entity.proofs.Kept.{keeps_role}
+use Rattle.clnp_systems.specs.Steps.{TakesStep}
+use Rattle.clnp_systems.proofs.Kept.{keeps_role}
 use Rattle.clnp_systems.specs.EndSystem.State.{HostState}
 use Rattle.clnp_systems.proofs.host.EndSystem.tick.Goals as goal
 

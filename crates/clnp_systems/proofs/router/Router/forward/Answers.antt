@@ -8,7 +8,7 @@ use Rattle.clnp_machine.specs.Given.{Appends}
 use Rattle.clnp_machine.specs.Local.{discard}
 use Rattle.clnp_machine.specs.Step.{effect_of}
 use Rattle.clnp_machine.specs.System.{Effect, Output, SystemState}
-use Rattle.system_entity.specs.Stands as entity
+use Rattle.clnp_systems.specs.EntityStands as entity
 use Rattle.clnp_systems.specs.Router.Onward.{ComesTo}
 use Rattle.clnp_systems.specs.Router.State.{RouterState}
 use Rattle.clnp_systems.specs.declared.onward.Onward.{Onward}

@@ -9,12 +9,12 @@ use Rattle.clnp_machine.specs.Given.{Appends}
 use Rattle.clnp_machine.specs.Step.{content_comes}
 use Rattle.clnp_machine.specs.System as machine
 use Rattle.clnp_machine.specs.System.{FrameComes, SystemState}
-use Rattle.system_entity.specs.Comes.{ComesOf, LeavesAsItWas}
-use Rattle.system_entity.specs.Stands as entity
-use Rattle.system_entity.specs.State.{SystemEntityState}
-use Rattle.system_entity.specs.Steps.{TakesStep}
-use Rattle.system_entity.specs.declared.entity.Arrival.{Arrival}
-use Rattle.system_entity.proofs.Both.{on_ok_both}
+use Rattle.clnp_systems.specs.Comes.{ComesOf, LeavesAsItWas}
+use Rattle.clnp_systems.specs.EntityStands as entity
+use Rattle.clnp_systems.specs.EntityState.{SystemEntityState}
+use Rattle.clnp_systems.specs.Steps.{TakesStep}
+use Rattle.clnp_systems.specs.declared.entity.Arrival.{Arrival}
+use Rattle.clnp_systems.proofs.Both.{on_ok_both}
 use Rattle.clnp_systems.specs.Router.State.{RouterState}
 use Rattle.clnp_systems.proofs.RouterPassing.{onward, passed_after, passed_outputs}
 use Rattle.clnp_systems.proofs.router.Router.frame.Goals as goal

@@ -9,9 +9,9 @@ use Rattle.clnp_machine.specs.Step.{effect_of, hop_by, options_behind, redirects
 use Rattle.clnp_machine.specs.declared.way.Hop.{Hop}
 use Rattle.clnp_machine.specs.System.{Effect, Output, SystemState}
 use Rattle.clnp_machine.specs.Unit.{value_of}
-use Rattle.system_entity.specs.LocalEntity.Sending.{transmission}
-use Rattle.system_entity.specs.Stands as entity
-use Rattle.system_entity.specs.State.{SystemEntityState}
+use Rattle.clnp_systems.specs.Sending.{transmission}
+use Rattle.clnp_systems.specs.EntityStands as entity
+use Rattle.clnp_systems.specs.EntityState.{SystemEntityState}
 use Rattle.clnp_systems.specs.Router.State.{RouterState}
 use Rattle.clnp_systems.proofs.Going.{data_in, goes, stays, appends_whatever_came, appends_both}
 use Rattle.clnp_systems.proofs.router.Router.go_on.Goals as goal

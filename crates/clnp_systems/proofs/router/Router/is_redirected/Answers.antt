@@ -4,7 +4,7 @@ use Rattle.std.specs.Prelude.{◌&&◌}
 use Rattle.clnp_machine.specs.ClnpPlan.Configuration.{SystemConfiguration}
 use Rattle.clnp_machine.specs.ClnpPlan.declared.config.Settings.{Settings}
 use Rattle.clnp_machine.specs.Step.{is_at}
-use Rattle.system_entity.specs.Stands as entity
+use Rattle.clnp_systems.specs.EntityStands as entity
 use Rattle.clnp_systems.specs.Router.State.{RouterState}
 use Rattle.clnp_systems.proofs.Better.{source_decides}
 use Rattle.clnp_systems.proofs.router.Router.is_redirected.Goals as goal

@@ -4,9 +4,9 @@ use Rattle.clnp_machine.specs.System.{Effect}
 use Rattle.clnp_machine.specs.PduHeader.Headers.{SpellsHeader}
 use Rattle.clnp_machine.specs.PduHeader.Value.{PduValue}
 use Rattle.clnp_machine.specs.Unit.{value_of}
-use Rattle.system_entity.specs.Comes.{HasValue}
-use Rattle.system_entity.specs.Stands as entity
-use Rattle.system_entity.specs.declared.passing.Passing.{Passing}
+use Rattle.clnp_systems.specs.Comes.{HasValue}
+use Rattle.clnp_systems.specs.EntityStands as entity
+use Rattle.clnp_systems.specs.declared.passing.Passing.{Passing}
 use Rattle.clnp_systems.specs.Router.Onward.{ComesTo}
 use Rattle.clnp_systems.specs.Router.State.{RouterState}
 use Rattle.clnp_systems.proofs.Behind.{is_header}

@@ -5,8 +5,8 @@ use Rattle.clnp_machine.specs.Step.{options_behind}
 use Rattle.clnp_machine.specs.System.{Effect}
 use Rattle.clnp_machine.specs.Unit.{value_of}
 use Rattle.clnp_machine.specs.PduHeader.Headers.{with_options}
-use Rattle.system_entity.proofs.LocalEntity.Sent.{port_at, port_missing}
-use Rattle.system_entity.specs.Stands as entity
+use Rattle.clnp_systems.proofs.Sent.{port_at, port_missing}
+use Rattle.clnp_systems.specs.EntityStands as entity
 use Rattle.clnp_systems.specs.Router.Onward.{ComesTo}
 use Rattle.clnp_systems.specs.Router.State.{RouterState}
 use Rattle.clnp_systems.proofs.Going.{by_another, by_its_port, no_way, whither_is}

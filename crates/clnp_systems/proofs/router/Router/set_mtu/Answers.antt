@@ -1,6 +1,6 @@
 -- A port of its entity takes other frames.
 use Rattle.std.proofs.Common.{sym, subst}
-use Rattle.system_entity.specs.Stands as entity
+use Rattle.clnp_systems.specs.EntityStands as entity
 use Rattle.clnp_systems.specs.Router.State.{RouterState}
 use Rattle.clnp_systems.proofs.router.Router.set_mtu.Goals as goal
 

@@ -1,7 +1,7 @@
 -- Its entity's routes are set.
 use Rattle.std.proofs.Common.{sym, subst}
 use Rattle.std.proofs.lemmas.Result.{on_err_weaker, on_ok_weaker}
-use Rattle.system_entity.specs.Stands as entity
+use Rattle.clnp_systems.specs.EntityStands as entity
 use Rattle.clnp_systems.specs.Router.State.{RouterState}
 use Rattle.clnp_systems.proofs.router.Router.set_route.Goals as goal
 

@@ -3,7 +3,7 @@ use Rattle.std.proofs.Common.{arith, refl}
 use Rattle.std.proofs.lemmas.Option.{slice_get_read}
 use Rattle.std.proofs.lemmas.Result.{on_ok_weaker}
 use Rattle.clnp_systems.specs.Stands.{role_of}
-use Rattle.clnp_systems.specs.SystemEntity.Steps.{input_with}
+use Rattle.clnp_systems.specs.Steps.{input_with}
 use Rattle.clnp_world.proofs.TakeSteps.{comes_there, comes_to_none}
 use Rattle.clnp_world.proofs.network.Network.comes.Goals as goal
 

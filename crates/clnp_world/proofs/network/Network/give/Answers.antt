@@ -10,7 +10,7 @@ use Rattle.clnp_world.specs.Lines.{Gains}
 use Rattle.clnp_world.specs.Parts.{Follows}
 use Rattle.clnp_world.specs.Stands.{IsMadeWithUnit}
 use Rattle.clnp_world.specs.declared.copy.FrameCopy.{FrameCopy}
-use Rattle.clnp_systems.specs.SystemEntity.declared.input.Input.TheVariants.{Frame}
+use Rattle.clnp_systems.specs.declared.input.Input.TheVariants.{Frame}
 use Rattle.clnp_world.proofs.GiveSteps.{TellsLate, born_at, came, copy_at, carried_at, gives_late, gives_now, hands_over}
 use Rattle.clnp_systems.specs.Stands.{role_of}
 use Rattle.clnp_world.proofs.TakeSteps.{comes_there, is_behind}

@@ -5,7 +5,7 @@ use Rattle.clnp_machine.specs.ClnpPlan.declared.output.Output.{Output}
 use Rattle.clnp_machine.specs.Content.{Content}
 use Rattle.clnp_machine.specs.Step.{step}
 use Rattle.clnp_systems.specs.Stands as clnp_systems
-use Rattle.clnp_systems.specs.SystemEntity.Steps.{Carries, TakesStep, input_with}
+use Rattle.clnp_systems.specs.Steps.{Carries, TakesStep, input_with}
 use Rattle.clnp_systems.specs.declared.system.System.{System}
 use Rattle.live_model.specs.Node.{Node, comes, puts_all_out}
 use Rattle.live_node.specs.Outputs.{PutAllOut}

@@ -1,4 +1,0 @@
-pub mod Reason
-pub mod Lengths
-pub mod Accepted
-mod FirstOctets

@@ -1,9 +1,0 @@
-mod Effects
-mod Hearing
-mod Forgetting
-mod Fronts
-mod Lengths
-mod LookingUp
-mod Redirects
-mod Saying
-mod Ticking

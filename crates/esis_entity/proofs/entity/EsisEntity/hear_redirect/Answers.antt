@@ -1,7 +1,0 @@
-use Rattle.esis_entity.proofs.Redirects.{ignores_redirect}
-use Rattle.esis_entity.proofs.entity.EsisEntity.hear_redirect.Goals as goal
-
-pub returns-then-not-is_router-clause-done : goal.returns-then-not-is_router-clause-done
-returns-then-not-is_router-clause-done c =
-    ignores_redirect c.give_note.result _ c.args.self.now c.args.now c.args.out.now.items c.give_note.new.out.items c.args.neighbour.now c.args.hold c.args.to c.args.via
-    c.self.view_is c.if-not-is_router.ensures c.give_note.ensures.given

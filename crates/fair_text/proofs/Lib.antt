@@ -1,6 +1,0 @@
-pub use Rattle.scenario.proofs.ClnpBase
-pub use Rattle.fair_reassembly.proofs as FairReassembly
-pub mod Sums
-pub mod Accepted
-pub mod Apart
-mod Worked

@@ -1,6 +1,0 @@
-use Rattle.clnp_machine.specs.Identifiers.{restarted}
-use Rattle.local_entity.proofs.Rest.{quiet_time, quiet_over}
-use Rattle.local_entity.proofs.laws.nothing_is_drawn_in_quiet_time.Goals as goal
-
-pub returns : goal.returns
-returns c = record { quiet = quiet_time; restarted = λ restart now ids idle. quiet_over now (restarted restart ids) idle }

@@ -1,0 +1,10 @@
+pub use Rattle.pdu_header.specs.ClnpOptions
+pub use Rattle.pdu_header.specs as PduHeader
+pub mod Cut
+pub mod Left
+pub mod Pieces
+pub mod Range
+pub mod Report
+pub mod Told
+pub mod Reply
+pub mod Match

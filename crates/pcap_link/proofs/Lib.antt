@@ -1,4 +1,0 @@
-pub mod Looks
-pub mod MadeFrames
-pub mod Starting
-pub mod Walking

@@ -1,3 +1,0 @@
-pub mod Frames
-pub mod Playing
-pub mod Walk

@@ -1,6 +1,0 @@
-pub use Rattle.pdu_header.specs.ClnpOptions
-pub use Rattle.pdu_header.specs as PduHeader
-pub mod Cut
-pub mod Left
-pub mod Pieces
-pub mod Range

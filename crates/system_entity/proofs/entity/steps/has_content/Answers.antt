@@ -1,5 +1,0 @@
-use Rattle.std.proofs.Common.{◌∙◌}
-use Rattle.system_entity.proofs.entity.steps.has_content.Goals as goal
-
-pub returns : goal.returns
-returns c = (c.octets_have_content.ensures.0, c.octets_have_content.ensures.1, c.octets_have_content.ensures.2 ∙ c.parts.ensures.octets)
