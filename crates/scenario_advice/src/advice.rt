@@ -40,13 +40,6 @@ impl Advice {
         }
     }
 
-    /// A text alone.
-    pub(crate) fn of(text: &str) -> Advice
-        ensures some { 1 ≤ length text.now → 1 ≤ length result }
-    {
-        Advice::new().text(text)
-    }
-
     /// What is said.
     pub fn as_bytes(&self) -> &[u8]
         ensures said { result.now ≡ self.now }
@@ -55,55 +48,59 @@ impl Advice {
         self.said.as_bytes()
     }
 
-    /// What is said, or else the line as it stands, if the text has it.
-    pub(crate) fn or_line(self, line: Option<&[u8]>) -> Advice
-        ensures told { IsTold result }
+    /// Says the line as it stands, or that the text has none, where nothing is said yet.
+    pub(crate) fn or_line(&mut self, line: Option<&[u8]>)
+        ensures told { IsTold self.new }
     {
-        let advice = if self.as_bytes().is_empty() {
-            as_it_stands(line)
-        } else {
-            self
-        };
-        // Its clause: what is said is plain.
-        let _ = advice.as_bytes();
-        advice
-    }
-
-    /// Puts a text behind what is said.
-    pub(crate) fn text(self, text: &str) -> Advice
-        ensures longer { length self ≤ length result }
-        ensures some { 1 ≤ length text.now → 1 ≤ length result }
-    {
-        self.octets(text.as_bytes())
-    }
-
-    /// Puts octets behind what is said, those that are no plain characters by their digits.
-    pub(crate) fn octets(self, octets: &[u8]) -> Advice
-        ensures longer { length self ≤ length result }
-        ensures some { 1 ≤ length octets.now → 1 ≤ length result }
-    {
-        let mut advice = self;
-        for octet in octets {
-            advice.put(*octet);
+        if self.as_bytes().is_empty() {
+            self.line_as_it_stands(line);
         }
-        advice
+        // Its clause: what is said is plain.
+        let _ = self.as_bytes();
+    }
+
+    /// Says a line as it stands, or that the text has none.
+    fn line_as_it_stands(&mut self, line: Option<&[u8]>)
+        ensures some { 1 ≤ length self.new }
+    {
+        match line {
+            Some(line) => {
+                self.octets(b"the line is ");
+                self.word(line);
+            }
+            None => self.octets(b"the text ends here"),
+        }
     }
 
     /// Puts a number behind what is said.
-    pub(crate) fn number(self, number: u64) -> Advice {
+    pub(crate) fn number(&mut self, number: u64) {
         let mut buffer = Buffer::new();
-        self.octets(buffer.format(number).as_bytes())
+        self.octets(buffer.format(number).as_bytes());
+    }
+
+    /// Puts octets behind what is said, those that are no plain characters by their digits.
+    pub(crate) fn octets(&mut self, octets: &[u8])
+        ensures longer { length self.old ≤ length self.new }
+        ensures some { 1 ≤ length octets.now → 1 ≤ length self.new }
+    {
+        for octet in octets {
+            self.put(*octet);
+        }
     }
 
     /// Puts a word behind what is said, in quotes; a long one is cut.
-    pub(crate) fn word(self, word: &[u8]) -> Advice
-        ensures longer { length self ≤ length result }
+    pub(crate) fn word(&mut self, word: &[u8])
+        ensures longer { length self.old ≤ length self.new }
     {
+        self.octets(b"\"");
         if word.len() <= MOST_OF_A_WORD {
-            return self.text("\"").octets(word).text("\"");
+            self.octets(word);
+        } else {
+            let (front, _) = word.split_at(MOST_OF_A_WORD);
+            self.octets(front);
+            self.octets(b"..");
         }
-        let (front, _) = word.split_at(MOST_OF_A_WORD);
-        self.text("\"").octets(front).text("..\"")
+        self.octets(b"\"");
     }
 
     /// Puts an octet behind what is said: a plain character, or `\x` and two hexadecimal digits.
@@ -130,16 +127,6 @@ impl Advice {
         if self.said.len() < MOST {
             self.said.push(&[octet]);
         }
-    }
-}
-
-/// A line as it stands, or that the text has none.
-fn as_it_stands(line: Option<&[u8]>) -> Advice
-    ensures some { 1 ≤ length result }
-{
-    match line {
-        Some(line) => Advice::of("the line is ").word(line),
-        None => Advice::of("the text ends here"),
     }
 }
 

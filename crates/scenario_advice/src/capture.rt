@@ -3,101 +3,115 @@ ghost use Rattle.scenario_advice.specs.Said.{IsTold};
 
 use crate::advice::Advice;
 use crate::file::of_file;
-use crate::form::first_other;
+use crate::form::{are_octets, cut_before, first_other};
 use crate::place::Place;
-use crate::word::of_count;
+use crate::saying::{Piece, Saying};
 use scenario::Code;
 
 /// The most octets of a frame.
 const MOST_FRAME: usize = 70_000;
 
+const NO_ARROW: &[Piece] = &[Piece::Text(
+    "behind the digits of the frame stands no \" => \"; wanted: DIGITS => LINE",
+)];
+
+const TOO_LONG: &[Piece] = &[
+    Piece::Text("the frame has "),
+    Piece::Count,
+    Piece::Text(" octets; it may have 70000"),
+];
+
+const NO_DIGIT: &[Piece] = &[
+    Piece::Text("character "),
+    Piece::Count,
+    Piece::Text(" is "),
+    Piece::Character,
+    Piece::Text("; wanted: the hexadecimal digits of one frame, two an octet, and nothing else"),
+];
+
+const NO_DIGITS: &[Piece] = &[Piece::Text(
+    "the line begins with a space; wanted: the digits of a frame",
+)];
+
+const ONE_DIGIT: &[Piece] = &[Piece::Text(
+    "the frame has 1 digit, an odd number; wanted: two an octet",
+)];
+
+const ODD_DIGITS: &[Piece] = &[
+    Piece::Text("the frame has "),
+    Piece::Count,
+    Piece::Text(" digits, an odd number; wanted: two an octet"),
+];
+
 /// What is said to the author of a capture that is refused at a line, from 1, with the number of a code.
 pub fn of_capture(text: &[u8], line: u32, code: u8) -> Advice
     ensures told { IsTold result }
 {
-    let line = Place { text, number: line }.line();
-    match of_capture_line(text, line, code) {
-        Some(advice) => advice.or_line(line),
-        None => Advice::new().or_line(line),
-    }
+    of_text(Place { text, number: line }, false, code)
 }
 
 /// What is said to the author of a file of vectors that is refused at a line, from 1, with the number of a code.
 pub fn of_vectors(text: &[u8], line: u32, code: u8) -> Advice
     ensures told { IsTold result }
 {
-    let line = Place { text, number: line }.line();
-    match of_vector(text, line, code) {
-        Some(advice) => advice.or_line(line),
-        None => Advice::new().or_line(line),
-    }
+    of_text(Place { text, number: line }, true, code)
 }
 
-/// What is found to say of a line of a capture.
-fn of_capture_line(text: &[u8], line: Option<&[u8]>, code: u8) -> Option<Advice> {
-    if let Some(advice) = of_file(text) {
-        return Some(advice);
+/// What is said of a line of such a text.
+fn of_text(at: Place<'_>, is_vector: bool, code: u8) -> Advice
+    ensures told { IsTold result }
+{
+    let mut advice = Advice::new();
+    if let Some(saying) = of_text_line(at, is_vector, code) {
+        saying.tell(&mut advice, at);
     }
-    of_frame(line?, Code::of_number(code)?)
+    advice.or_line(at.line());
+    advice
 }
 
-/// What is found to say of a line of a file of vectors.
-fn of_vector(text: &[u8], line: Option<&[u8]>, code: u8) -> Option<Advice> {
-    if let Some(advice) = of_file(text) {
-        return Some(advice);
+/// What is found to say of a line of such a text.
+fn of_text_line(at: Place<'_>, is_vector: bool, code: u8) -> Option<Saying> {
+    if let Some(saying) = of_file(at.text) {
+        return Some(saying);
     }
-    let line = line?;
+    let line = at.line()?;
     let code = Code::of_number(code)?;
-    let at = line.iter().position(|c| *c == b' ').unwrap_or(line.len());
-    let (digits, rest) = line.split_at(at);
+    if !is_vector {
+        return of_frame(line, code);
+    }
+    let (digits, rest) = cut_before(line, b' ');
     if code == Code::Syntax && is_frame(digits) && !rest.starts_with(b" => ") {
-        return Some(Advice::of(
-            "behind the digits of the frame stands no \" => \"; wanted: DIGITS => LINE",
-        ));
+        return Some(Saying::of(NO_ARROW));
     }
     of_frame(digits, code)
 }
 
 /// Whether digits are those of a frame.
 fn is_frame(digits: &[u8]) -> bool {
-    !digits.is_empty() && digits.len() % 2 == 0 && first_other(digits).is_none()
+    !digits.is_empty() && are_octets(digits)
 }
 
-/// What is said of the digits of a frame.
-fn of_frame(digits: &[u8], code: Code) -> Option<Advice> {
+/// What is said of the digits of a frame, with which a line begins.
+fn of_frame(digits: &[u8], code: Code) -> Option<Saying> {
+    let size = digits.len() / 2;
     match code {
         Code::Syntax => of_digits(digits),
-        Code::Count if is_frame(digits) && digits.len() / 2 > MOST_FRAME => Some(
-            Advice::of("the frame has ")
-                .number((digits.len() / 2) as u64)
-                .text(" octets; it may have 70000"),
-        ),
+        Code::Count if size > MOST_FRAME && are_octets(digits) => {
+            Some(Saying::counting(TOO_LONG, size as u64))
+        }
         _ => None,
     }
 }
 
 /// What is said of what should be digits and isn't.
-fn of_digits(digits: &[u8]) -> Option<Advice> {
+fn of_digits(digits: &[u8]) -> Option<Saying> {
     if let Some(place) = first_other(digits) {
-        let (_, rest) = digits.split_at(place.saturating_sub(1).min(digits.len()));
-        let character = rest.get(..1)?;
-        return Some(
-            Advice::of("character ")
-                .number(place as u64)
-                .text(" is ")
-                .word(character)
-                .text(
-                    "; wanted: the hexadecimal digits of one frame, two an octet, and nothing else",
-                ),
-        );
+        return Some(Saying::counting(NO_DIGIT, place as u64));
     }
-    if digits.is_empty() {
-        return Some(Advice::of("the line begins with a space; wanted: the digits of a frame"));
+    match digits.len() {
+        0 => Some(Saying::of(NO_DIGITS)),
+        1 => Some(Saying::of(ONE_DIGIT)),
+        count if count % 2 == 1 => Some(Saying::counting(ODD_DIGITS, count as u64)),
+        _ => None,
     }
-    if digits.len() % 2 == 1 {
-        return Some(of_count(Advice::of("the frame has "), digits.len() as u64).text(
-            ", an odd number; wanted: two an octet",
-        ));
-    }
-    None
 }

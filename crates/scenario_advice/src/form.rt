@@ -1,5 +1,5 @@
 //! The forms of words, and which word breaks its own.
-use crate::place::{Mark, Place, word_at};
+use crate::place::{Place, Sought, has_word, word_at};
 use scenario::Code;
 use scenario::base::{decimal, same};
 use scenario::nsaps::{Address, Prefix, Snpa};
@@ -70,7 +70,7 @@ impl Form {
             Form::OnOff => "on or off",
             Form::Number { .. } => "a decimal number",
             Form::Mtu => "a decimal number from 512 to 65535",
-            Form::OwnPort => "the number of a port, 0 to 7",
+            Form::OwnPort => "a decimal number from 0 to 7",
             Form::Address =>
                 "an address: 1 to 20 octets, two hexadecimal digits each; dots are skipped",
             Form::Snpa => "an SNPA: 1 to 20 octets, two hexadecimal digits each; dots are skipped",
@@ -98,23 +98,18 @@ fn broken_name(word: &[u8], is_declared: bool) -> Option<Code> {
 
 /// Whether a subnetwork of this name is declared before a line.
 pub(crate) fn is_subnet(at: Place<'_>, word: &[u8]) -> bool {
-    at.before(b"subnet", Mark::Word { place: 2, word })
-        .is_some()
+    at.before(b"subnet", Sought::Name(word)).is_some()
 }
 
 /// Whether a system of this name is declared before a line.
 pub(crate) fn is_system(at: Place<'_>, word: &[u8]) -> bool {
-    at.before(b"system", Mark::Word { place: 2, word })
-        .is_some()
+    at.before(b"system", Sought::Name(word)).is_some()
 }
 
 /// Whether a system of this name and role is declared before a line.
 pub(crate) fn has_role(at: Place<'_>, word: &[u8], role: &[u8]) -> bool {
-    match at.before(b"system", Mark::Word { place: 2, word }) {
-        Some(found) => match word_at(found.line, 3) {
-            Some(other) => same(other, role),
-            None => false,
-        },
+    match at.before(b"system", Sought::Name(word)) {
+        Some(found) => has_word(found.line, 3, role),
         None => false,
     }
 }
@@ -124,12 +119,11 @@ fn broken_port(at: Place<'_>, line: &[u8], word: &[u8]) -> Option<Code> {
     if !is_number(0, 7, word) {
         return Some(Code::Number);
     }
-    let name = word_at(line, 2)?;
-    let number = decimal(word)?;
-    unless(
-        at.before(b"port", Mark::Port { name, number }).is_some(),
-        Code::UnknownName,
-    )
+    let sought = Sought::Port {
+        name: word_at(line, 2)?,
+        number: word,
+    };
+    unless(at.before(b"port", sought).is_some(), Code::UnknownName)
 }
 
 /// Whether a word is a decimal number of a range.
@@ -163,33 +157,36 @@ pub(crate) fn are_octets(word: &[u8]) -> bool {
 
 /// What the octets of a data unit break, in their two forms.
 fn broken_unit(word: &[u8]) -> Option<Code> {
-    if let Some(fields) = word.strip_prefix(b"pat:") {
-        return broken_pattern(fields);
+    if let Some(digits) = word.strip_prefix(b"hex:") {
+        return unless(are_octets(digits), Code::Address);
     }
-    match word.strip_prefix(b"hex:") {
-        Some(digits) => unless(are_octets(digits), Code::Address),
-        None => Some(Code::Syntax),
-    }
-}
-
-/// The two fields into which a text is cut by its only `:`.
-pub(crate) fn two_fields(text: &[u8]) -> Option<(&[u8], &[u8])> {
-    let at = text.iter().position(|c| *c == b':')?;
-    let (first, rest) = text.split_at(at);
-    let second = rest.strip_prefix(b":")?;
-    if second.iter().any(|c| *c == b':') {
-        return None;
-    }
-    Some((first, second))
-}
-
-/// What the length and the start of a pattern break.
-fn broken_pattern(fields: &[u8]) -> Option<Code> {
-    let Some((length, start)) = two_fields(fields) else {
+    let Some((length, start)) = pattern_fields(word) else {
         return Some(Code::Syntax);
     };
     unless(
         is_number(0, 70_000, length) && is_number(0, 255, start),
         Code::Number,
     )
+}
+
+/// A text cut before the first octet that is this one, or at its end.
+pub(crate) fn cut_before(text: &[u8], octet: u8) -> (&[u8], &[u8]) {
+    let mut at: usize = 0;
+    for c in text {
+        if *c == octet {
+            break;
+        }
+        at = at.saturating_add(1);
+    }
+    text.split_at(at.min(text.len()))
+}
+
+/// The length and the start of a pattern: the two fields into which what stands behind `pat:` is cut by its only `:`.
+pub(crate) fn pattern_fields(word: &[u8]) -> Option<(&[u8], &[u8])> {
+    let (first, rest) = cut_before(word.strip_prefix(b"pat:")?, b':');
+    let second = rest.strip_prefix(b":")?;
+    if second.contains(&b':') {
+        return None;
+    }
+    Some((first, second))
 }

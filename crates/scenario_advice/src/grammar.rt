@@ -18,7 +18,6 @@ pub(crate) enum More {
 }
 
 /// A line by its keyword.
-#[derive(Clone, Copy)]
 pub(crate) struct LineForm {
     pub(crate) keyword: &'static [u8],
     /// The line as it is written.
@@ -101,7 +100,7 @@ const DECLARATIONS_OF_VERSION_2: &[LineForm] = &[LineForm {
     more: More::Nothing,
 }];
 
-pub(crate) const EVENTS: &[LineForm] = &[
+const EVENTS: &[LineForm] = &[
     LineForm {
         keyword: b"send",
         shape: "send NAME FROM TO DATA, and perhaps whole, noreport, life=N, opt=HEX",
@@ -174,7 +173,7 @@ pub(crate) const EVENTS: &[LineForm] = &[
 ];
 
 /// Those of version 2 alone, by which a network changes.
-pub(crate) const CHANGES: &[LineForm] = &[
+const CHANGES: &[LineForm] = &[
     LineForm {
         keyword: b"mtu",
         shape: "mtu SUBNET MTU",
@@ -208,7 +207,7 @@ pub(crate) const CHANGES: &[LineForm] = &[
 ];
 
 /// The ticks of one system alone, in version 2.
-pub(crate) const TICK_OF_ONE: LineForm = LineForm {
+const TICK_OF_ONE: &LineForm = &LineForm {
     keyword: b"tick",
     shape: "tick N or tick NAME N",
     words: &[
@@ -222,17 +221,17 @@ pub(crate) const TICK_OF_ONE: LineForm = LineForm {
 };
 
 /// The line of a keyword, if it is one of these.
-pub(crate) fn form_of(forms: &'static [LineForm], keyword: &[u8]) -> Option<LineForm> {
+pub(crate) fn form_of(forms: &'static [LineForm], keyword: &[u8]) -> Option<&'static LineForm> {
     for form in forms {
         if same(form.keyword, keyword) {
-            return Some(*form);
+            return Some(form);
         }
     }
     None
 }
 
 /// The declaration of a keyword in the version of a text, if it is one.
-pub(crate) fn declaration_of(at: Place<'_>, keyword: &[u8]) -> Option<LineForm> {
+pub(crate) fn declaration_of(at: Place<'_>, keyword: &[u8]) -> Option<&'static LineForm> {
     if at.is_of_version_2() {
         if let Some(form) = form_of(DECLARATIONS_OF_VERSION_2, keyword) {
             return Some(form);
@@ -242,7 +241,7 @@ pub(crate) fn declaration_of(at: Place<'_>, keyword: &[u8]) -> Option<LineForm> 
 }
 
 /// The event of a keyword with so many words behind it in the version of a text, if it is one.
-pub(crate) fn event_of(at: Place<'_>, keyword: &[u8], count: usize) -> Option<LineForm> {
+pub(crate) fn event_of(at: Place<'_>, keyword: &[u8], count: usize) -> Option<&'static LineForm> {
     if same(keyword, b"tick") && count > 1 && at.is_of_version_2() {
         return Some(TICK_OF_ONE);
     }
@@ -254,7 +253,7 @@ pub(crate) fn event_of(at: Place<'_>, keyword: &[u8], count: usize) -> Option<Li
 }
 
 /// The event of a keyword in a text for a live node, if it is one that such a node takes.
-pub(crate) fn live_event_of(keyword: &[u8]) -> Option<LineForm> {
+pub(crate) fn live_event_of(keyword: &[u8]) -> Option<&'static LineForm> {
     if same(keyword, b"send") || same(keyword, b"echo") || same(keyword, b"tick") {
         return form_of(EVENTS, keyword);
     }
@@ -262,7 +261,6 @@ pub(crate) fn live_event_of(keyword: &[u8]) -> Option<LineForm> {
 }
 
 /// A key and the range of its number.
-#[derive(Clone, Copy)]
 pub(crate) struct Key {
     pub(crate) key: &'static [u8],
     pub(crate) text: &'static str,
@@ -271,7 +269,7 @@ pub(crate) struct Key {
 }
 
 /// The settings of a system that are numbers.
-pub(crate) const SETTINGS: &[Key] = &[
+const SETTINGS: &[Key] = &[
     Key {
         key: b"hello=",
         text: "hello=",
@@ -335,7 +333,7 @@ pub(crate) const SETTINGS: &[Key] = &[
 ];
 
 /// The wishes of a `send` that are numbers.
-pub(crate) const WISHES: &[Key] = &[Key {
+const WISHES: &[Key] = &[Key {
     key: b"life=",
     text: "life=",
     low: 1,
@@ -343,10 +341,10 @@ pub(crate) const WISHES: &[Key] = &[Key {
 }];
 
 /// The key with which a word begins.
-pub(crate) fn key_of(keys: &'static [Key], word: &[u8]) -> Option<Key> {
+pub(crate) fn key_of(keys: &'static [Key], word: &[u8]) -> Option<&'static Key> {
     for key in keys {
         if word.starts_with(key.key) {
-            return Some(*key);
+            return Some(key);
         }
     }
     None
@@ -355,10 +353,17 @@ pub(crate) fn key_of(keys: &'static [Key], word: &[u8]) -> Option<Key> {
 impl More {
     /// The code of what a word breaks that stands behind those that a line must have.
     pub(crate) fn broken(self, word: &[u8]) -> Option<Code> {
+        if let Some(key) = key_of(self.keys(), word) {
+            let number = word.strip_prefix(key.key)?;
+            return unless(is_number(key.low, key.high, number), Code::Number);
+        }
         match self {
             More::Nothing => None,
             More::Transit => unless(is_number(1, 255, word), Code::Number),
-            More::Settings => broken_setting(word),
+            More::Settings => unless(
+                same(word, b"checksum=on") || same(word, b"checksum=off"),
+                Code::Syntax,
+            ),
             More::Wishes => broken_wish(word),
         }
     }
@@ -385,26 +390,8 @@ impl More {
     }
 }
 
-/// The code of what the number behind a key breaks.
-fn broken_key(key: Key, word: &[u8]) -> Option<Code> {
-    let number = word.strip_prefix(key.key)?;
-    unless(is_number(key.low, key.high, number), Code::Number)
-}
-
-fn broken_setting(word: &[u8]) -> Option<Code> {
-    if let Some(key) = key_of(SETTINGS, word) {
-        return broken_key(key, word);
-    }
-    unless(
-        same(word, b"checksum=on") || same(word, b"checksum=off"),
-        Code::Syntax,
-    )
-}
-
+/// The code of what a wish without a number breaks.
 fn broken_wish(word: &[u8]) -> Option<Code> {
-    if let Some(key) = key_of(WISHES, word) {
-        return broken_key(key, word);
-    }
     if let Some(digits) = word.strip_prefix(b"opt=") {
         return unless(are_options(digits), Code::Address);
     }

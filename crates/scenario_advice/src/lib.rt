@@ -12,6 +12,7 @@ mod form;
 mod grammar;
 mod header;
 mod place;
+mod saying;
 mod scenario_text;
 mod systems;
 mod whole;

@@ -7,29 +7,17 @@ pub(crate) const VERSION_2: &[u8] = b"clnp-sim 2";
 
 /// The word at a place of a line, from 1.
 pub(crate) fn word_at(line: &[u8], place: usize) -> Option<&[u8]> {
-    let mut left = place;
-    for word in words(line) {
-        if left <= 1 {
-            return Some(word);
-        }
-        left -= 1;
-    }
-    None
+    words(line).nth(place.saturating_sub(1))
 }
 
 /// The number at a place of a line, where a decimal stands there.
 pub(crate) fn number_at(line: &[u8], place: usize) -> Option<u64> {
-    let word = word_at(line, place)?;
-    decimal(word)
+    decimal(word_at(line, place)?)
 }
 
 /// How many words a line has.
 pub(crate) fn count_words(line: &[u8]) -> usize {
-    let mut count: usize = 0;
-    for _word in words(line) {
-        count = count.saturating_add(1);
-    }
-    count
+    words(line).count()
 }
 
 /// Whether a line begins with a keyword.
@@ -40,88 +28,107 @@ pub(crate) fn begins(line: &[u8], keyword: &[u8]) -> bool {
     }
 }
 
-/// Whether an `address` line has this address.
-fn has_address(line: &[u8], address: &Address) -> bool {
-    match word_at(line, 3) {
-        Some(word) => match Address::from_text(word) {
-            Ok(other) => other == *address,
-            Err(_) => false,
-        },
-        None => false,
+/// What two words of lines are compared as.
+pub(crate) enum Kind {
+    Word,
+    Number,
+    Address,
+    Snpa,
+    Prefix,
+}
+
+/// A word of a line by its place, and what it is compared as.
+pub(crate) struct Column {
+    pub(crate) place: usize,
+    pub(crate) kind: Kind,
+}
+
+impl Column {
+    /// Whether two words are the same there.
+    fn are_same(&self, word: &[u8], other: &[u8]) -> bool {
+        match self.kind {
+            Kind::Word => same(word, other),
+            Kind::Number => decimal(word).is_some() && decimal(word) == decimal(other),
+            Kind::Address => match (Address::from_text(word), Address::from_text(other)) {
+                (Ok(address), Ok(other)) => address == other,
+                _ => false,
+            },
+            Kind::Snpa => match (Snpa::from_text(word), Snpa::from_text(other)) {
+                (Ok(snpa), Ok(other)) => snpa == other,
+                _ => false,
+            },
+            Kind::Prefix => match (Prefix::from_text(word), Prefix::from_text(other)) {
+                (Ok(prefix), Ok(other)) => prefix == other,
+                _ => false,
+            },
+        }
     }
 }
 
-/// Whether a `port` line has this SNPA.
-fn has_snpa(line: &[u8], snpa: &Snpa) -> bool {
-    match word_at(line, 5) {
-        Some(word) => match Snpa::from_text(word) {
-            Ok(other) => other == *snpa,
-            Err(_) => false,
-        },
-        None => false,
+/// What tells a port of a system from others.
+pub(crate) const PORT: &[Column] = &[
+    Column {
+        place: 2,
+        kind: Kind::Word,
+    },
+    Column {
+        place: 3,
+        kind: Kind::Number,
+    },
+];
+
+/// Whether two lines have the same words there.
+pub(crate) fn are_alike(line: &[u8], other: &[u8], columns: &'static [Column]) -> bool {
+    for column in columns {
+        match (word_at(line, column.place), word_at(other, column.place)) {
+            (Some(word), Some(other)) if column.are_same(word, other) => {}
+            _ => return false,
+        }
     }
+    true
 }
 
-/// Whether a `route` line has this prefix.
-fn has_prefix(line: &[u8], prefix: &Prefix) -> bool {
-    match word_at(line, 3) {
-        Some(word) => match Prefix::from_text(word) {
-            Ok(other) => other == *prefix,
-            Err(_) => false,
-        },
-        None => false,
-    }
-}
-
-/// What a line is known by, beside its keyword.
+/// What a line is sought by, beside its keyword.
 #[derive(Clone, Copy)]
-pub(crate) enum Mark<'a> {
-    /// A word at a place.
-    Word { place: usize, word: &'a [u8] },
-    /// The port with a number of a system.
-    Port { name: &'a [u8], number: u64 },
-    /// The port of a system on a subnetwork.
-    PortOn { name: &'a [u8], subnet: &'a [u8] },
-    /// An address of a system.
-    Address(&'a Address),
-    /// An SNPA on a subnetwork.
-    Snpa { subnet: &'a [u8], snpa: &'a Snpa },
-    /// The route of a router for a prefix.
-    Route { name: &'a [u8], prefix: &'a Prefix },
+pub(crate) enum Sought<'a> {
+    /// It has no other word.
+    Alone,
+    /// The name of what it declares.
+    Name(&'a [u8]),
+    /// The number of a port, as a word tells it, of the system of a name.
+    Port {
+        name: &'a [u8],
+        number: &'a [u8],
+    },
+    /// What it has in columns, as another line has.
+    Like {
+        line: &'a [u8],
+        columns: &'static [Column],
+    },
 }
 
-impl Mark<'_> {
-    /// Whether a line has it.
-    fn is_on(self, line: &[u8]) -> bool {
+impl Sought<'_> {
+    /// Whether a line is so.
+    fn is(self, line: &[u8]) -> bool {
         match self {
-            Mark::Word { place, word } => has_word(line, place, word),
-            Mark::Port { name, number } => has_word(line, 2, name) && has_number(line, 3, number),
-            Mark::PortOn { name, subnet } => has_word(line, 2, name) && has_word(line, 4, subnet),
-            Mark::Address(address) => has_address(line, address),
-            Mark::Snpa { subnet, snpa } => has_word(line, 4, subnet) && has_snpa(line, snpa),
-            Mark::Route { name, prefix } => has_word(line, 2, name) && has_prefix(line, prefix),
+            Sought::Alone => count_words(line) == 1,
+            Sought::Name(name) => has_word(line, 2, name),
+            Sought::Port { name, number } => {
+                has_word(line, 2, name) && number_at(line, 3) == decimal(number)
+            }
+            Sought::Like {
+                line: other,
+                columns,
+            } => are_alike(line, other, columns),
         }
     }
 }
 
 /// Whether a line has a word at a place.
-fn has_word(line: &[u8], place: usize, word: &[u8]) -> bool {
+pub(crate) fn has_word(line: &[u8], place: usize, word: &[u8]) -> bool {
     match word_at(line, place) {
         Some(other) => same(other, word),
         None => false,
-    }
-}
-
-/// Whether a line has a number at a place.
-fn has_number(line: &[u8], place: usize, number: u64) -> bool {
-    number_at(line, place) == Some(number)
-}
-
-/// Whether two `port` lines are of one port.
-fn is_of_port(line: &[u8], other: &[u8]) -> bool {
-    match (word_at(line, 2), number_at(line, 3)) {
-        (Some(name), Some(number)) => has_word(other, 2, name) && has_number(other, 3, number),
-        _ => false,
     }
 }
 
@@ -152,45 +159,24 @@ impl<'a> Place<'a> {
 
     /// The line, where the text has it.
     pub(crate) fn line(self) -> Option<&'a [u8]> {
-        let mut number: u32 = 1;
-        for line in lines(self.text) {
-            if number == self.number {
-                return Some(line);
-            }
-            number = number.saturating_add(1);
-        }
-        None
+        let before = self.number.checked_sub(1)?;
+        lines(self.text).nth(before as usize)
     }
 
-    /// The first line before this one that has this one word alone.
-    pub(crate) fn alone(self, word: &[u8]) -> Option<Found<'a>> {
-        let mut number: u32 = 1;
-        for line in lines(self.text) {
-            if number >= self.number {
-                return None;
-            }
-            if begins(line, word) && count_words(line) == 1 {
-                return Some(Found { number, line });
-            }
-            number = number.saturating_add(1);
-        }
-        None
-    }
-
-    /// The first line of a keyword and a mark, from a number on and before another.
-    fn first_between(
+    /// The first line of a keyword that is sought, from a number on and before another.
+    pub(crate) fn first_between(
         self,
         from: u32,
         to: u32,
         keyword: &[u8],
-        mark: Mark<'_>,
+        sought: Sought<'_>,
     ) -> Option<Found<'a>> {
         let mut number: u32 = 1;
         for line in lines(self.text) {
             if number >= to {
                 return None;
             }
-            if number >= from && begins(line, keyword) && mark.is_on(line) {
+            if number >= from && begins(line, keyword) && sought.is(line) {
                 return Some(Found { number, line });
             }
             number = number.saturating_add(1);
@@ -198,46 +184,25 @@ impl<'a> Place<'a> {
         None
     }
 
-    /// The first line of a keyword and a mark before this one.
-    pub(crate) fn before(self, keyword: &[u8], mark: Mark<'_>) -> Option<Found<'a>> {
-        self.first_between(1, self.number, keyword, mark)
+    /// The first line of a keyword that is sought before this one.
+    pub(crate) fn before(self, keyword: &[u8], sought: Sought<'_>) -> Option<Found<'a>> {
+        self.first_between(1, self.number, keyword, sought)
     }
 
-    /// The last line of a keyword and a mark before this one.
-    pub(crate) fn last_before(self, keyword: &[u8], mark: Mark<'_>) -> Option<Found<'a>> {
-        let mut found = None;
-        let mut number: u32 = 1;
-        for line in lines(self.text) {
-            if number >= self.number {
-                break;
-            }
-            if begins(line, keyword) && mark.is_on(line) {
-                found = Some(Found { number, line });
-            }
-            number = number.saturating_add(1);
-        }
-        found
-    }
-
-    /// The `port` line before this one that gives a port this SNPA on a subnetwork, where it is the last one of a port, which
-    /// isn't that of this line.
-    pub(crate) fn last_with_snpa(
-        self,
-        own: &[u8],
-        subnet: &[u8],
-        snpa: &Snpa,
-    ) -> Option<Found<'a>> {
-        let mark = Mark::Snpa { subnet, snpa };
+    /// The first `port` line before this one of another port than that of a line that has the same words in these columns and
+    /// is the last one of its port.
+    pub(crate) fn port_now(self, own: &[u8], columns: &'static [Column]) -> Option<Found<'a>> {
         let mut number: u32 = 1;
         for line in lines(self.text) {
             if number >= self.number {
                 return None;
             }
-            if begins(line, b"port") && mark.is_on(line) && !is_of_port(own, line) {
-                let found = Found { number, line };
-                if self.is_last(found) {
-                    return Some(found);
-                }
+            if begins(line, b"port")
+                && are_alike(own, line, columns)
+                && !are_alike(own, line, PORT)
+                && self.is_last(line, number)
+            {
+                return Some(Found { number, line });
             }
             number = number.saturating_add(1);
         }
@@ -245,18 +210,13 @@ impl<'a> Place<'a> {
     }
 
     /// Whether no line between a `port` line and this one puts its port elsewhere.
-    fn is_last(self, found: Found<'_>) -> bool {
-        let from = found.number.saturating_add(1);
-        match (word_at(found.line, 2), number_at(found.line, 3)) {
-            (Some(name), Some(number)) => self
-                .first_between(from, self.number, b"port", Mark::Port { name, number })
-                .is_none(),
-            _ => false,
-        }
-    }
-
-    /// The first line of a keyword and a mark behind this one.
-    pub(crate) fn behind(self, keyword: &[u8], mark: Mark<'_>) -> Option<Found<'a>> {
-        self.first_between(self.number, u32::MAX, keyword, mark)
+    fn is_last(self, line: &[u8], number: u32) -> bool {
+        let sought = Sought::Like {
+            line,
+            columns: PORT,
+        };
+        let from = number.saturating_add(1);
+        self.first_between(from, self.number, b"port", sought)
+            .is_none()
     }
 }

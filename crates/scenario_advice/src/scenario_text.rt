@@ -5,126 +5,122 @@ use crate::advice::Advice;
 use crate::grammar::{
     DECLARATIONS, LineForm, More, declaration_of, event_of, form_of, live_event_of,
 };
-use crate::header::{Versions, of_header};
-use crate::place::{Place, count_words, word_at};
+use crate::header::{ALL, FIRST_ALONE, Versions, of_header};
+use crate::place::{Place, Sought, count_words, word_at};
+use crate::saying::{Piece, Saying};
 use crate::systems::of_systems;
 use crate::whole::of_whole;
 use crate::word::{of_further_word, of_keyword, of_word, of_word_too_many, of_words_missing};
 use scenario::Code;
 use scenario::base::{next_word, same, words};
 
+const NO_MORE_EVENTS: &[Piece] = &[Piece::Text(
+    "the text ends here; wanted: an event, or the line end",
+)];
+
+const NO_MORE_DECLARATIONS: &[Piece] = &[Piece::Text(
+    "the text ends here; wanted: a declaration, or the line events",
+)];
+
+const SPACES: &[Piece] = &[Piece::Text(
+    "the line has nothing but spaces; an empty line has no character",
+)];
+
+const BEHIND_END: &[Piece] = &[Piece::Text(
+    "nothing but skipped lines may stand behind the line end",
+)];
+
+const NO_LIMITS: &[Piece] = &[Piece::Text(
+    "no line before this one says limits L R Q S, which a text of version 2 has once",
+)];
+
 /// What is said to the author of a scenario text, of either version, that is refused at a line, from 1, with the number of a
 /// code: which word is at fault and what is wanted there, or which names the line is about. Where that can't be told, the line.
 pub fn of_scenario(text: &[u8], line: u32, code: u8) -> Advice
     ensures told { IsTold result }
 {
-    of_text(Place { text, number: line }, code, Versions::All, None)
+    of_text(Place { text, number: line }, code, ALL, None)
 }
 
 /// The same where texts of version 1 alone are read.
 pub fn of_scenario_of_version_1(text: &[u8], line: u32, code: u8) -> Advice
     ensures told { IsTold result }
 {
-    of_text(
-        Place { text, number: line },
-        code,
-        Versions::FirstAlone,
-        None,
-    )
+    of_text(Place { text, number: line }, code, FIRST_ALONE, None)
 }
 
 /// The same where texts are read for a live node on a board of so many links.
 pub fn of_scenario_for_run(text: &[u8], links: usize, line: u32, code: u8) -> Advice
     ensures told { IsTold result }
 {
-    of_text(
-        Place { text, number: line },
-        code,
-        Versions::All,
-        Some(links),
-    )
+    of_text(Place { text, number: line }, code, ALL, Some(links))
 }
 
 /// What is said of a line that is refused with the number of a code; for a live node, where links are given.
-fn of_text(at: Place<'_>, code: u8, versions: Versions, links: Option<usize>) -> Advice
+fn of_text(at: Place<'_>, code: u8, versions: &'static Versions, links: Option<usize>) -> Advice
     ensures told { IsTold result }
 {
-    let found = match Code::of_number(code) {
-        Some(Code::Header) => of_header(at, versions),
-        Some(code) => of_line(at, code, links),
-        None => None,
-    };
-    match found {
-        Some(advice) => advice.or_line(at.line()),
-        None => Advice::new().or_line(at.line()),
+    let mut advice = Advice::new();
+    if let Some(saying) = of_code(at, code, versions, links) {
+        saying.tell(&mut advice, at);
+    }
+    advice.or_line(at.line());
+    advice
+}
+
+/// What is found to say of a line.
+fn of_code(
+    at: Place<'_>,
+    code: u8,
+    versions: &'static Versions,
+    links: Option<usize>,
+) -> Option<Saying> {
+    match Code::of_number(code)? {
+        Code::Header => of_header(at, versions),
+        code => of_line(at, code, links),
     }
 }
 
 /// What is said of a line behind the header.
-fn of_line(at: Place<'_>, code: Code, links: Option<usize>) -> Option<Advice> {
-    let has_events = at.alone(b"events").is_some();
+fn of_line(at: Place<'_>, code: Code, links: Option<usize>) -> Option<Saying> {
+    let has_events = at.before(b"events", Sought::Alone).is_some();
     let Some(line) = at.line() else {
-        return of_end_of_text(has_events, code);
+        return only_syntax(
+            code,
+            if has_events {
+                NO_MORE_EVENTS
+            } else {
+                NO_MORE_DECLARATIONS
+            },
+        );
     };
     let Some((keyword, rest)) = next_word(line) else {
-        return of_spaces(code);
+        return only_syntax(code, SPACES);
     };
     if !has_events {
         return of_declaration(at, line, keyword, rest, code, links);
     }
-    if at.alone(b"end").is_some() {
-        return only_syntax(
-            code,
-            "nothing but skipped lines may stand behind the line end",
-        );
+    if at.before(b"end", Sought::Alone).is_some() {
+        return only_syntax(code, BEHIND_END);
     }
-    if let Some(form) = event_for(at, keyword, count_words(rest), links) {
-        return of_words(at, line, rest, form, code);
-    }
-    only_for_syntax(code, of_other_event(at, keyword, rest, links))
-}
-
-/// The event of a keyword with so many words behind it, if it is one that may come.
-fn event_for(
-    at: Place<'_>,
-    keyword: &[u8],
-    count: usize,
-    links: Option<usize>,
-) -> Option<LineForm> {
-    match links {
-        None => event_of(at, keyword, count),
+    let form = match links {
+        None => event_of(at, keyword, count_words(rest)),
         Some(_) => live_event_of(keyword),
+    };
+    match form {
+        Some(form) => of_words(at, line, rest, form, code),
+        None if code == Code::Syntax => Some(of_other_event(at, keyword, rest, links)),
+        None => None,
     }
 }
 
-/// A text where the code is that of syntax.
-fn only_syntax(code: Code, text: &str) -> Option<Advice> {
-    only_for_syntax(code, Advice::of(text))
-}
-
-/// An advice where the code is that of syntax.
-fn only_for_syntax(code: Code, advice: Advice) -> Option<Advice> {
+/// A saying where the code is that of syntax.
+fn only_syntax(code: Code, pieces: &'static [Piece]) -> Option<Saying> {
     if code == Code::Syntax {
-        Some(advice)
+        Some(Saying::of(pieces))
     } else {
         None
     }
-}
-
-fn of_end_of_text(has_events: bool, code: Code) -> Option<Advice> {
-    let said = if has_events {
-        "the text ends here; wanted: an event, or the line end"
-    } else {
-        "the text ends here; wanted: a declaration, or the line events"
-    };
-    only_syntax(code, said)
-}
-
-fn of_spaces(code: Code) -> Option<Advice> {
-    only_syntax(
-        code,
-        "the line has nothing but spaces; an empty line has no character",
-    )
 }
 
 /// What is said of a line before `events`.
@@ -135,16 +131,15 @@ fn of_declaration(
     rest: &[u8],
     code: Code,
     links: Option<usize>,
-) -> Option<Advice> {
+) -> Option<Saying> {
     if let Some(form) = declaration_of(at, keyword) {
         return of_words(at, line, rest, form, code);
     }
     if same(keyword, b"events") {
-        return match next_word(rest) {
-            Some((word, _)) => only_for_syntax(code, of_word_too_many(2, word, "events")),
-            None if code == Code::Count => of_systems(at, links),
-            None => of_missing_limits(at, code),
-        };
+        return of_line_events(at, rest, code, links);
+    }
+    if code != Code::Syntax {
+        return None;
     }
     let wanted = if same(keyword, b"end") {
         "a declaration, or the line events, which stands before the events and end"
@@ -153,22 +148,25 @@ fn of_declaration(
     } else {
         "limits, subnet, system, address, port, route or events"
     };
-    only_for_syntax(code, of_keyword(keyword, wanted))
+    Some(of_keyword(keyword, wanted))
 }
 
-/// What is said at the line `events` of a text that has to say its limits.
-fn of_missing_limits(at: Place<'_>, code: Code) -> Option<Advice> {
-    if !at.is_of_version_2() {
-        return None;
+/// What is said of the line `events`: a further word, what systems lack, or that the text has to say its limits.
+fn of_line_events(at: Place<'_>, rest: &[u8], code: Code, links: Option<usize>) -> Option<Saying> {
+    let further = next_word(rest);
+    match code {
+        Code::Syntax => match further {
+            Some((word, _)) => Some(of_word_too_many(2, word, "events")),
+            None if at.is_of_version_2() => Some(Saying::of(NO_LIMITS)),
+            None => None,
+        },
+        Code::Count if further.is_none() => of_systems(at, links),
+        _ => None,
     }
-    only_syntax(
-        code,
-        "no line before this one says limits L R Q S, which a text of version 2 has once",
-    )
 }
 
 /// What is said of a line behind `events` whose first word is no event.
-fn of_other_event(at: Place<'_>, keyword: &[u8], rest: &[u8], links: Option<usize>) -> Advice {
+fn of_other_event(at: Place<'_>, keyword: &[u8], rest: &[u8], links: Option<usize>) -> Saying {
     if same(keyword, b"end") {
         if let Some((word, _)) = next_word(rest) {
             return of_word_too_many(2, word, "end");
@@ -189,30 +187,31 @@ fn of_other_event(at: Place<'_>, keyword: &[u8], rest: &[u8], links: Option<usiz
 }
 
 /// What is said of a line with a known keyword: how many words it has, then each of them, then the line as a whole.
-fn of_words(at: Place<'_>, line: &[u8], rest: &[u8], form: LineForm, code: Code) -> Option<Advice> {
+fn of_words(
+    at: Place<'_>,
+    line: &[u8],
+    rest: &[u8],
+    form: &'static LineForm,
+    code: Code,
+) -> Option<Saying> {
     let count = count_words(rest);
+    let least = form.words.len();
     let most = match form.more {
-        More::Nothing => Some(form.words.len()),
-        More::Transit => Some(form.words.len().saturating_add(1)),
-        More::Settings | More::Wishes => None,
+        More::Nothing => least,
+        More::Transit => least.saturating_add(1),
+        More::Settings | More::Wishes => usize::MAX,
     };
-    if count < form.words.len() {
-        return only_for_syntax(code, of_words_missing(count.saturating_add(1), form.shape));
+    if count >= least && count <= most {
+        return of_each_word(at, line, rest, form, code);
     }
-    match most {
-        Some(most) if count > most => of_further(rest, most, form, code),
-        _ => of_each_word(at, line, rest, form, code),
+    if code != Code::Syntax {
+        return None;
     }
-}
-
-/// What is said of the first word of a line that is one too many.
-fn of_further(rest: &[u8], most: usize, form: LineForm, code: Code) -> Option<Advice> {
-    let place = most.saturating_add(1);
-    let word = word_at(rest, place)?;
-    only_for_syntax(
-        code,
-        of_word_too_many(place.saturating_add(1), word, form.shape),
-    )
+    if count < least {
+        return Some(of_words_missing(count.saturating_add(1), form.shape));
+    }
+    let place = most.saturating_add(2);
+    Some(of_word_too_many(place, word_at(line, place)?, form.shape))
 }
 
 /// What is said of the first word of a line that breaks its form, or of the line as a whole.
@@ -220,39 +219,26 @@ fn of_each_word(
     at: Place<'_>,
     line: &[u8],
     rest: &[u8],
-    form: LineForm,
+    form: &'static LineForm,
     code: Code,
-) -> Option<Advice> {
-    let mut left = rest;
+) -> Option<Saying> {
     let mut place: usize = 2;
-    for wanted in form.words {
-        let (word, behind) = next_word(left)?;
-        if let Some(broken) = wanted.broken(at, line, word) {
+    for word in words(rest) {
+        let wanted = form.words.get(place.saturating_sub(2));
+        let broken = match wanted {
+            Some(wanted) => wanted.broken(at, line, word),
+            None => form.more.broken(word),
+        };
+        if let Some(broken) = broken {
             if broken != code {
                 return None;
             }
-            return Some(of_word(at, line, place, *wanted, word, code));
-        }
-        left = behind;
-        place = place.saturating_add(1);
-    }
-    match of_further_words(left, place, form.more) {
-        Some((place, word, broken)) if broken == code => {
-            Some(of_further_word(place, form.more, word, code))
-        }
-        Some(_) => None,
-        None => of_whole(at, line, form.keyword, form.more, code),
-    }
-}
-
-/// The first further word that breaks its form, with its place and the code.
-fn of_further_words(rest: &[u8], place: usize, more: More) -> Option<(usize, &[u8], Code)> {
-    let mut place = place;
-    for word in words(rest) {
-        if let Some(code) = more.broken(word) {
-            return Some((place, word, code));
+            return Some(match wanted {
+                Some(wanted) => of_word(at, place, *wanted, word, code),
+                None => of_further_word(place, form.more, word, code),
+            });
         }
         place = place.saturating_add(1);
     }
-    None
+    of_whole(at, line, form.keyword, form.more, code)
 }

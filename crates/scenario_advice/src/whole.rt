@@ -1,11 +1,297 @@
 //! What is said of a line as a whole: what it names is there already, or there is no room for it.
-use crate::advice::Advice;
 use crate::form::has_role;
 use crate::grammar::{More, key_of};
-use crate::place::{Found, Mark, Place, begins, count_words, number_at, word_at};
+use crate::place::{Column, Kind, PORT, Place, Sought, begins, count_words, number_at, word_at};
+use crate::saying::{NOTHING, Piece, Saying};
 use scenario::Code;
 use scenario::base::{is_skipped, lines, same, words};
-use scenario::nsaps::{Address, Prefix, Snpa};
+
+/// What a line says again, as a line before it has the same words.
+struct Again {
+    code: Code,
+    is_event: bool,
+    keyword: &'static [u8],
+    columns: &'static [Column],
+    said: &'static [Piece],
+}
+
+const NAME: Column = Column {
+    place: 2,
+    kind: Kind::Word,
+};
+
+const SUBNET_OF_PORT: Column = Column {
+    place: 4,
+    kind: Kind::Word,
+};
+
+const SNPA_OF_PORT: Column = Column {
+    place: 5,
+    kind: Kind::Snpa,
+};
+
+const AGAIN: &[Again] = &[
+    Again {
+        code: Code::DupName,
+        is_event: false,
+        keyword: b"limits",
+        columns: &[],
+        said: &[Piece::Text("limits stands already, in line "), Piece::Other],
+    },
+    Again {
+        code: Code::DupName,
+        is_event: false,
+        keyword: b"subnet",
+        columns: &[NAME],
+        said: &[
+            Piece::Text("a subnet "),
+            Piece::Bare(2),
+            Piece::Text(" is declared already, in line "),
+            Piece::Other,
+        ],
+    },
+    Again {
+        code: Code::DupName,
+        is_event: false,
+        keyword: b"system",
+        columns: &[NAME],
+        said: &[
+            Piece::Text("a system "),
+            Piece::Bare(2),
+            Piece::Text(" is declared already, in line "),
+            Piece::Other,
+        ],
+    },
+    Again {
+        code: Code::DupName,
+        is_event: false,
+        keyword: b"port",
+        columns: PORT,
+        said: &[
+            Piece::Bare(2),
+            Piece::Text(" has a port "),
+            Piece::Number(3),
+            Piece::Text(" already, in line "),
+            Piece::Other,
+        ],
+    },
+    Again {
+        code: Code::DupName,
+        is_event: false,
+        keyword: b"port",
+        columns: &[NAME, SUBNET_OF_PORT],
+        said: &[
+            Piece::Bare(2),
+            Piece::Text(" has a port on "),
+            Piece::Bare(4),
+            Piece::Text(" already, in line "),
+            Piece::Other,
+        ],
+    },
+    Again {
+        code: Code::DupName,
+        is_event: true,
+        keyword: b"port",
+        columns: &[NAME, SUBNET_OF_PORT],
+        said: &[
+            Piece::Bare(2),
+            Piece::Text(" has its port "),
+            Piece::OtherNumber(3),
+            Piece::Text(" on "),
+            Piece::Bare(4),
+            Piece::Text(", in line "),
+            Piece::Other,
+        ],
+    },
+    Again {
+        code: Code::DupAddress,
+        is_event: false,
+        keyword: b"address",
+        columns: &[Column {
+            place: 3,
+            kind: Kind::Address,
+        }],
+        said: &[
+            Piece::Text("the address "),
+            Piece::Word(3),
+            Piece::Text(" is already one of "),
+            Piece::OtherBare(2),
+            Piece::Text(", in line "),
+            Piece::Other,
+        ],
+    },
+    Again {
+        code: Code::DupAddress,
+        is_event: false,
+        keyword: b"port",
+        columns: &[SUBNET_OF_PORT, SNPA_OF_PORT],
+        said: &[
+            Piece::Text("the SNPA "),
+            Piece::Word(5),
+            Piece::Text(" on "),
+            Piece::Bare(4),
+            Piece::Text(" is already that of "),
+            Piece::OtherBare(2),
+            Piece::Text(", in line "),
+            Piece::Other,
+        ],
+    },
+    Again {
+        code: Code::DupAddress,
+        is_event: true,
+        keyword: b"port",
+        columns: &[SUBNET_OF_PORT, SNPA_OF_PORT],
+        said: &[
+            Piece::Text("the SNPA "),
+            Piece::Word(5),
+            Piece::Text(" on "),
+            Piece::Bare(4),
+            Piece::Text(" is now that of "),
+            Piece::OtherBare(2),
+            Piece::Text(", in line "),
+            Piece::Other,
+        ],
+    },
+    Again {
+        code: Code::DupAddress,
+        is_event: false,
+        keyword: b"route",
+        columns: &[
+            NAME,
+            Column {
+                place: 3,
+                kind: Kind::Prefix,
+            },
+        ],
+        said: &[
+            Piece::Bare(2),
+            Piece::Text(" has a route for "),
+            Piece::Word(3),
+            Piece::Text(" already, in line "),
+            Piece::Other,
+        ],
+    },
+];
+
+const WORD_AGAIN: &[Piece] = &[
+    Piece::WordIs,
+    Piece::Text("; its like stands already in this line"),
+];
+
+const TOO_NEAR: &[Piece] = &[
+    Piece::Text("the third number, "),
+    Piece::Number(4),
+    Piece::Text(", is less than the first two together, "),
+    Piece::Number(2),
+    Piece::Text(" + "),
+    Piece::Number(3),
+];
+
+const TOO_NEAR_WITH_SKEW: &[Piece] = &[
+    Piece::Text("the third number, "),
+    Piece::Number(4),
+    Piece::Text(", is less than the first two together, "),
+    Piece::Number(2),
+    Piece::Text(" + "),
+    Piece::Number(3),
+    Piece::Text(", and twice the fourth, "),
+    Piece::Number(5),
+    Piece::Text(", besides"),
+];
+
+const CLOCK: &[Piece] = &[
+    Piece::Text("the clock of "),
+    Piece::Bare(2),
+    Piece::Text(" would stand more than "),
+    Piece::OtherNumber(5),
+    Piece::Text(" above that of another system"),
+];
+
+const MTU: &[Piece] = &[
+    Piece::Text("word 3 is "),
+    Piece::Word(3),
+    Piece::Text("; wanted: an MTU from 512 to 65535"),
+];
+
+const LONG_FRAME: &[Piece] = &[Piece::Text("the frame has more than 70000 octets")];
+
+const ROUTES_NOW: &[Piece] = &[Piece::Text(
+    "the router has 256 routes of other prefixes now, and no more may be",
+)];
+
+const EVENTS: &[Piece] = &[Piece::Text(
+    "there are 100000 event lines before this one, and no more may be",
+)];
+
+const COPIES: &[Piece] = &[
+    Piece::Text("with this line the numbers of settle and lose add up to "),
+    Piece::Count,
+    Piece::Text("; they may to 10000000"),
+];
+
+const TICKS: &[Piece] = &[
+    Piece::Text("with this line the numbers of tick add up to "),
+    Piece::Count,
+    Piece::Text("; they may to 1000000"),
+];
+
+/// A declaration of which there are as many as may be.
+struct Full {
+    keyword: &'static [u8],
+    /// The role of the system that it is of; none where any may be.
+    role: &'static [u8],
+    said: &'static [Piece],
+}
+
+const FULL: &[Full] = &[
+    Full {
+        keyword: b"subnet",
+        role: b"",
+        said: &[Piece::Text("64 subnetworks are declared already, and no more may be")],
+    },
+    Full {
+        keyword: b"system",
+        role: b"",
+        said: &[Piece::Text("64 systems are declared already, and no more may be")],
+    },
+    Full {
+        keyword: b"route",
+        role: b"",
+        said: &[Piece::Text("the router has 256 routes already, and no more may be")],
+    },
+    Full {
+        keyword: b"address",
+        role: b"host",
+        said: &[
+            Piece::Bare(2),
+            Piece::Text(" is a host; a host has at most 8 addresses"),
+        ],
+    },
+    Full {
+        keyword: b"port",
+        role: b"host",
+        said: &[
+            Piece::Bare(2),
+            Piece::Text(" is a host; a host has exactly one port"),
+        ],
+    },
+    Full {
+        keyword: b"address",
+        role: b"router",
+        said: &[
+            Piece::Bare(2),
+            Piece::Text(" is a router; a router has exactly one address"),
+        ],
+    },
+    Full {
+        keyword: b"port",
+        role: b"router",
+        said: &[
+            Piece::Bare(2),
+            Piece::Text(" is a router; a router has at most 8 ports"),
+        ],
+    },
+];
 
 /// What is said of a line whose words are right each by itself.
 pub(crate) fn of_whole(
@@ -14,126 +300,60 @@ pub(crate) fn of_whole(
     keyword: &[u8],
     more: More,
     code: Code,
-) -> Option<Advice> {
-    let is_event = at.alone(b"events").is_some();
+) -> Option<Saying> {
+    let is_event = at.before(b"events", Sought::Alone).is_some();
     match code {
-        Code::DupName if is_event && same(keyword, b"port") => of_second_port(at, line),
-        Code::DupName => of_name_again(at, line, keyword, more),
-        Code::DupAddress if is_event => of_rival(at, line),
-        Code::DupAddress => of_address_again(at, line, keyword),
+        Code::DupName | Code::DupAddress => {
+            of_again(at, line, keyword, is_event, code).or(of_word_again(line, more))
+        }
         Code::Limits if is_event => of_clock(at, line),
         Code::Limits => of_limits(line),
-        Code::Mtu => of_mtu(line),
+        Code::Mtu => Some(Saying::of(MTU)),
         Code::Count if is_event => of_event_too_many(at, line, keyword),
         Code::Count => of_count(at, line, keyword),
         _ => None,
     }
 }
 
-/// What is said of something that a line says again.
-fn again(what: Advice, found: Found<'_>) -> Option<Advice> {
-    Some(what.text(", in line ").number(u64::from(found.number)))
-}
-
-fn of_name_again(at: Place<'_>, line: &[u8], keyword: &[u8], more: More) -> Option<Advice> {
-    if same(keyword, b"limits") {
-        let found = at.before(
-            b"limits",
-            Mark::Word {
-                place: 1,
-                word: b"limits",
-            },
-        )?;
-        return again(Advice::of("limits stands already"), found);
-    }
-    if same(keyword, b"port") {
-        return of_port_again(at, line);
-    }
-    let name = word_at(line, 2)?;
-    if same(keyword, b"subnet") || same(keyword, b"system") {
-        if let Some(found) = at.before(
-            keyword,
-            Mark::Word {
-                place: 2,
-                word: name,
-            },
-        ) {
-            let what = Advice::of("a ").octets(keyword).text(" ").octets(name);
-            return again(what.text(" is declared already"), found);
-        }
-    }
-    of_word_again(line, more)
-}
-
-/// What is said of a port number of a system, or a subnetwork, that it has already.
-fn of_port_again(at: Place<'_>, line: &[u8]) -> Option<Advice> {
-    let name = word_at(line, 2)?;
-    let number = number_at(line, 3)?;
-    let subnet = word_at(line, 4)?;
-    let what = Advice::new().octets(name).text(" has a port ");
-    if let Some(found) = at.before(b"port", Mark::Port { name, number }) {
-        return again(what.number(number).text(" already"), found);
-    }
-    let found = at.before(b"port", Mark::PortOn { name, subnet })?;
-    again(what.text("on ").octets(subnet).text(" already"), found)
-}
-
-/// What is said of an event that puts a port on a subnetwork where another port of the system is now.
-fn of_second_port(at: Place<'_>, line: &[u8]) -> Option<Advice> {
-    let name = word_at(line, 2)?;
-    let number = number_at(line, 3)?;
-    let subnet = word_at(line, 4)?;
-    for other in 0..8u64 {
-        if other == number {
-            continue;
-        }
-        let mark = Mark::Port {
-            name,
-            number: other,
-        };
-        if let Some(found) = at.last_before(b"port", mark) {
-            if is_on(found.line, subnet) {
-                let what = Advice::new().octets(name).text(" has its port ");
-                return again(what.number(other).text(" on ").octets(subnet), found);
+/// What is said of what a line before has, too.
+fn of_again(
+    at: Place<'_>,
+    line: &[u8],
+    keyword: &[u8],
+    is_event: bool,
+    code: Code,
+) -> Option<Saying> {
+    for again in AGAIN {
+        if again.code == code && again.is_event == is_event && same(again.keyword, keyword) {
+            let found = if is_event {
+                at.port_now(line, again.columns)
+            } else {
+                at.before(
+                    keyword,
+                    Sought::Like {
+                        line,
+                        columns: again.columns,
+                    },
+                )
+            };
+            if let Some(found) = found {
+                return Some(Saying::other(again.said, found.number));
             }
         }
     }
     None
 }
 
-/// Whether a `port` line puts the port on this subnetwork.
-fn is_on(line: &[u8], subnet: &[u8]) -> bool {
-    match word_at(line, 4) {
-        Some(word) => same(word, subnet),
-        None => false,
-    }
-}
-
-/// What is said of an event that gives a port an SNPA which another port has there now.
-fn of_rival(at: Place<'_>, line: &[u8]) -> Option<Advice> {
-    let subnet = word_at(line, 4)?;
-    let word = word_at(line, 5)?;
-    let snpa = Snpa::from_text(word).ok()?;
-    let found = at.last_with_snpa(line, subnet, &snpa)?;
-    let owner = word_at(found.line, 2)?;
-    let what = Advice::of("the SNPA ")
-        .word(word)
-        .text(" on ")
-        .octets(subnet);
-    again(what.text(" is now that of ").octets(owner), found)
-}
-
 /// What is said of a setting or of a wish that stands twice in a line.
-fn of_word_again(line: &[u8], more: More) -> Option<Advice> {
+fn of_word_again(line: &[u8], more: More) -> Option<Saying> {
     let mut place: usize = 1;
     for word in words(line) {
         if is_again(line, place, word, more) {
-            let advice = Advice::of("word ").number(place as u64).text(" is ");
-            return Some(
-                advice
-                    .word(word)
-                    .text("; its like stands already in this line"),
-            );
+            return Some(Saying {
+                pieces: WORD_AGAIN,
+                place,
+                ..NOTHING
+            });
         }
         place = place.saturating_add(1);
     }
@@ -174,179 +394,51 @@ fn key_part(word: &[u8], more: More) -> &[u8] {
     word
 }
 
-/// What is said of an address, an SNPA or a route that stands already.
-fn of_address_again(at: Place<'_>, line: &[u8], keyword: &[u8]) -> Option<Advice> {
-    if same(keyword, b"address") {
-        return of_nsap_again(at, line);
-    }
-    if same(keyword, b"port") {
-        return of_snpa_again(at, line);
-    }
-    of_route_again(at, line)
-}
-
-/// What is said of an address that a system has already.
-fn of_nsap_again(at: Place<'_>, line: &[u8]) -> Option<Advice> {
-    let word = word_at(line, 3)?;
-    let address = Address::from_text(word).ok()?;
-    let found = at.before(b"address", Mark::Address(&address))?;
-    let what = Advice::of("the address ").word(word);
-    let owner = word_at(found.line, 2)?;
-    again(what.text(" is already one of ").octets(owner), found)
-}
-
-/// What is said of an SNPA that another port has there already.
-fn of_snpa_again(at: Place<'_>, line: &[u8]) -> Option<Advice> {
-    let subnet = word_at(line, 4)?;
-    let word = word_at(line, 5)?;
-    let snpa = Snpa::from_text(word).ok()?;
-    let found = at.before(
-        b"port",
-        Mark::Snpa {
-            subnet,
-            snpa: &snpa,
-        },
-    )?;
-    let owner = word_at(found.line, 2)?;
-    let what = Advice::of("the SNPA ")
-        .word(word)
-        .text(" on ")
-        .octets(subnet);
-    again(what.text(" is already that of ").octets(owner), found)
-}
-
-/// What is said of a prefix for which a system has a route already.
-fn of_route_again(at: Place<'_>, line: &[u8]) -> Option<Advice> {
-    let name = word_at(line, 2)?;
-    let word = word_at(line, 3)?;
-    let prefix = Prefix::from_text(word).ok()?;
-    let found = at.before(
-        b"route",
-        Mark::Route {
-            name,
-            prefix: &prefix,
-        },
-    )?;
-    let what = Advice::new()
-        .octets(name)
-        .text(" has a route for ")
-        .word(word);
-    again(what.text(" already"), found)
-}
-
 /// What is said of limits that are too near to one another.
-fn of_limits(line: &[u8]) -> Option<Advice> {
-    let age = number_at(line, 2)?;
-    let hold = number_at(line, 3)?;
-    let reuse = number_at(line, 4)?;
+fn of_limits(line: &[u8]) -> Option<Saying> {
+    let least = number_at(line, 2)?.saturating_add(number_at(line, 3)?);
     let skew = number_at(line, 5).unwrap_or(0);
-    let least = age.saturating_add(hold);
-    if least.saturating_add(skew).saturating_add(skew) <= reuse {
+    if least.saturating_add(skew).saturating_add(skew) <= number_at(line, 4)? {
         return None;
     }
-    let advice = Advice::of("the third number, ").number(reuse);
-    let advice = advice.text(", is less than the first two together, ");
-    let advice = advice.number(age).text(" + ").number(hold);
-    if skew == 0 {
-        return Some(advice);
-    }
-    Some(
-        advice
-            .text(", and twice the fourth, ")
-            .number(skew)
-            .text(", besides"),
-    )
-}
-
-/// What is said of a system that ticks too often alone.
-fn of_clock(at: Place<'_>, line: &[u8]) -> Option<Advice> {
-    let name = word_at(line, 2)?;
-    let skew = skew_of(at)?;
-    let advice = Advice::of("the clock of ")
-        .octets(name)
-        .text(" would stand more than ");
-    Some(advice.number(skew).text(" above that of another system"))
-}
-
-/// How far apart the limits let clocks stand.
-fn skew_of(at: Place<'_>) -> Option<u64> {
-    let mark = Mark::Word {
-        place: 1,
-        word: b"limits",
-    };
-    let found = at.before(b"limits", mark)?;
-    number_at(found.line, 5)
-}
-
-fn of_mtu(line: &[u8]) -> Option<Advice> {
-    let word = word_at(line, 3)?;
-    Some(
-        Advice::of("word 3 is ")
-            .word(word)
-            .text("; wanted: an MTU from 512 to 65535"),
-    )
-}
-
-fn of_count(at: Place<'_>, line: &[u8], keyword: &[u8]) -> Option<Advice> {
-    let said = if same(keyword, b"subnet") {
-        "64 subnetworks are declared already, and no more may be"
-    } else if same(keyword, b"system") {
-        "64 systems are declared already, and no more may be"
-    } else if same(keyword, b"route") {
-        "the router has 256 routes already, and no more may be"
-    } else if same(keyword, b"address") || same(keyword, b"port") {
-        return of_role(at, line, keyword);
+    Some(Saying::of(if skew == 0 {
+        TOO_NEAR
     } else {
-        return None;
-    };
-    Some(Advice::of(said))
+        TOO_NEAR_WITH_SKEW
+    }))
+}
+
+/// What is said of a system that ticks too often alone: how far apart the limits let clocks stand.
+fn of_clock(at: Place<'_>, line: &[u8]) -> Option<Saying> {
+    let limits = at.before(b"limits", Sought::Like { line, columns: &[] })?;
+    Some(Saying::other(CLOCK, limits.number))
+}
+
+/// What is said of a declaration of which there are as many as may be.
+fn of_count(at: Place<'_>, line: &[u8], keyword: &[u8]) -> Option<Saying> {
+    let name = word_at(line, 2)?;
+    for full in FULL {
+        if same(full.keyword, keyword) && (full.role.is_empty() || has_role(at, name, full.role)) {
+            return Some(Saying::of(full.said));
+        }
+    }
+    None
 }
 
 /// What is said of an event with which a number is passed.
-fn of_event_too_many(at: Place<'_>, line: &[u8], keyword: &[u8]) -> Option<Advice> {
-    if same(keyword, b"inject") && has_long_frame(line) {
-        return Some(Advice::of("the frame has more than 70000 octets"));
+fn of_event_too_many(at: Place<'_>, line: &[u8], keyword: &[u8]) -> Option<Saying> {
+    if same(keyword, b"inject") && word_at(line, 5)?.len() > 140_000 {
+        return Some(Saying::of(LONG_FRAME));
     }
-    match of_events(at) {
-        Some(advice) => Some(advice),
-        None if same(keyword, b"route") => Some(Advice::of(
-            "the router has 256 routes of other prefixes now, and no more may be",
-        )),
-        None => None,
+    let said = of_events(at);
+    if said.is_none() && same(keyword, b"route") {
+        return Some(Saying::of(ROUTES_NOW));
     }
-}
-
-/// Whether an `inject` line has more digits than a frame may have.
-fn has_long_frame(line: &[u8]) -> bool {
-    match word_at(line, 5) {
-        Some(word) => word.len() > 140_000,
-        None => false,
-    }
-}
-
-/// What is said of an address or a port that a role doesn't let a system have.
-fn of_role(at: Place<'_>, line: &[u8], keyword: &[u8]) -> Option<Advice> {
-    let name = word_at(line, 2)?;
-    let is_host = has_role(at, name, b"host");
-    if !is_host && !has_role(at, name, b"router") {
-        return None;
-    }
-    let most = match (is_host, same(keyword, b"address")) {
-        (true, true) => "; a host has at most 8 addresses",
-        (true, false) => "; a host has exactly one port",
-        (false, true) => "; a router has exactly one address",
-        (false, false) => "; a router has at most 8 ports",
-    };
-    let role = if is_host {
-        " is a host"
-    } else {
-        " is a router"
-    };
-    Some(Advice::new().octets(name).text(role).text(most))
+    said
 }
 
 /// How much the event lines up to one come to.
-#[derive(Drop)]
+#[derive(Clone, Copy)]
 struct Sums {
     events: u64,
     copies: u64,
@@ -354,49 +446,42 @@ struct Sums {
 }
 
 impl Sums {
-    /// One line more.
-    fn add(&mut self, line: &[u8]) {
-        self.events = self.events.saturating_add(1);
-        let count = match (number_at(line, 2), number_at(line, 3)) {
-            (Some(count), _) | (None, Some(count)) => count,
-            (None, None) => 0,
+    /// They with one line more.
+    fn with(self, line: &[u8]) -> Sums {
+        let count = match number_at(line, 2) {
+            Some(count) => count,
+            None => number_at(line, 3).unwrap_or(0),
         };
-        if begins(line, b"settle") || begins(line, b"lose") {
-            self.copies = self.copies.saturating_add(count);
-        }
-        if begins(line, b"tick") {
-            self.ticks = self.ticks.saturating_add(count);
+        let copies = if begins(line, b"settle") || begins(line, b"lose") {
+            count
+        } else {
+            0
+        };
+        let ticks = if begins(line, b"tick") { count } else { 0 };
+        Sums {
+            events: self.events.saturating_add(1),
+            copies: self.copies.saturating_add(copies),
+            ticks: self.ticks.saturating_add(ticks),
         }
     }
 
     /// What is said of them, where they come to too much.
-    fn advice(&self) -> Option<Advice> {
+    fn said(self) -> Option<Saying> {
         if self.events > 100_000 {
-            return Some(Advice::of(
-                "there are 100000 event lines before this one, and no more may be",
-            ));
+            Some(Saying::of(EVENTS))
+        } else if self.copies > 10_000_000 {
+            Some(Saying::counting(COPIES, self.copies))
+        } else if self.ticks > 1_000_000 {
+            Some(Saying::counting(TICKS, self.ticks))
+        } else {
+            None
         }
-        if self.copies > 10_000_000 {
-            return Some(
-                Advice::of("with this line the numbers of settle and lose add up to ")
-                    .number(self.copies)
-                    .text("; they may to 10000000"),
-            );
-        }
-        if self.ticks > 1_000_000 {
-            return Some(
-                Advice::of("with this line the numbers of tick add up to ")
-                    .number(self.ticks)
-                    .text("; they may to 1000000"),
-            );
-        }
-        None
     }
 }
 
 /// What is said of an event with which there are too many.
-fn of_events(at: Place<'_>) -> Option<Advice> {
-    let started = at.alone(b"events")?;
+fn of_events(at: Place<'_>) -> Option<Saying> {
+    let started = at.before(b"events", Sought::Alone)?;
     let mut sums = Sums {
         events: 0,
         copies: 0,
@@ -408,9 +493,9 @@ fn of_events(at: Place<'_>) -> Option<Advice> {
             break;
         }
         if number > started.number && !is_skipped(line) && count_words(line) > 0 {
-            sums.add(line);
+            sums = sums.with(line);
         }
         number = number.saturating_add(1);
     }
-    sums.advice()
+    sums.said()
 }
