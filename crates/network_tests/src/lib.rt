@@ -1,5 +1,6 @@
-//! Tests of the public calls of the local entity, the simulated network, the commands and the program: worked examples,
-//! and a happy path of each call that takes memory. A module for each crate, and one for the top call.
+//! Tests of the public calls of hosts, of routers, and of the enum of both: each is called where memory is there, and what
+//! it gives out is compared; of the local entity, the simulated network, the commands and the program: worked examples, and a
+//! happy path of each call that takes memory; and of runs of live nodes over boards of links.
 #![tactic(auto)]
 
 #[cfg(test)]
@@ -9,6 +10,24 @@ mod clnp_program_calls;
 #[cfg(test)]
 mod clnp_world_calls;
 #[cfg(test)]
+mod host_calls;
+#[cfg(test)]
+mod live_captured;
+#[cfg(test)]
+mod live_clock;
+#[cfg(test)]
+mod live_noting;
+#[cfg(test)]
+mod live_running;
+#[cfg(test)]
+mod live_runs;
+#[cfg(test)]
 mod local_entity_calls;
 #[cfg(test)]
+mod network;
+#[cfg(test)]
+mod router_calls;
+#[cfg(test)]
 mod seeing;
+#[cfg(test)]
+mod system_calls;

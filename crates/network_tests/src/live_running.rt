@@ -1,6 +1,6 @@
 //! Runs of a node, and what they say.
 
-use crate::clock::moments;
+use crate::live_clock::moments;
 use link_board::Ports;
 use link_board::base::{MemClock, MemSink, NoMemory, lines};
 use live_node::{RunStop, run_node};

@@ -1,6 +1,6 @@
 //! A run over a link that plays an Ethernet capture.
 
-use crate::running::{new_sink, run};
+use crate::live_running::{new_sink, run};
 use link_board::base::NoMemory;
 use link_board::{Board, Link};
 use pcap_frames::PcapLink;

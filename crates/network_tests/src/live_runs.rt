@@ -1,7 +1,7 @@
 //! Runs of a router over two links.
 
-use crate::noting::{Notes, is_dropped, no_notes, noting_link};
-use crate::running::{new_sink, run};
+use crate::live_noting::{Notes, is_dropped, no_notes, noting_link};
+use crate::live_running::{new_sink, run};
 use link_board::base::NoMemory;
 use link_board::{Board, Link};
 use live_node::RunStop;
