@@ -1,5 +1,5 @@
 use Rattle.std.proofs.Common.{length}
-use Rattle.call_tests.proofs.capture_text_calls.are_no_lines.Given as goal
+use Rattle.codec_tests.proofs.capture_text_calls.are_no_lines.Given as goal
 
 abbrev pub invariant-loop-change : goal.invariant-loop-change
 invariant-loop-change l = Unit {0}

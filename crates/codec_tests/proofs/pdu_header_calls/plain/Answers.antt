@@ -1,7 +1,7 @@
 use Rattle.std.proofs.Common.{◌≡◌, ◌∙◌, ap, refl, false, []}
 use Rattle.made_pdus.specs.ClnpOptions.Parameter.{parameters}
 use Rattle.made_pdus.specs.ClnpOptions.Rules.{place_of}
-use Rattle.call_tests.proofs.pdu_header_calls.plain.Goals as goal
+use Rattle.codec_tests.proofs.pdu_header_calls.plain.Goals as goal
 
 pub returns : goal.returns
 unfolding place_of

@@ -1,5 +1,5 @@
 use Rattle.std.proofs.Common.{length}
-use Rattle.call_tests.proofs.capture_text_calls.vectors_hold.Given as goal
+use Rattle.codec_tests.proofs.capture_text_calls.vectors_hold.Given as goal
 
 abbrev pub invariant-loop-vector : goal.invariant-loop-vector
 invariant-loop-vector l = Unit {0}

@@ -1,6 +1,6 @@
 use Rattle.std.proofs.Common.{refl, arith}
 use Rattle.made_pdus.specs.PduHeader.View.{pdu_value}
-use Rattle.call_tests.proofs.segmenter_calls.cuts_of.Goals as goal
+use Rattle.codec_tests.proofs.segmenter_calls.cuts_of.Goals as goal
 
 pub of-requires : goal.of-requires
 of-requires c = (pdu_value c.in-Ok.pdu, c.in-Ok.ensures.spells)

@@ -5,7 +5,7 @@ use Rattle.std.proofs.lemmas.Slice.Eq.{bytes_eq-Decides}
 use Rattle.made_pdus.specs.ClnpOptions.Parameter.{parameters, parameters_after}
 use Rattle.made_pdus.specs.ClnpOptions.Edits.{target_of, title_at, value_of}
 use Rattle.made_pdus.specs.PduHeader.View.{pdu_value}
-use Rattle.call_tests.proofs.pdu_header_calls.advanced.Goals as goal
+use Rattle.codec_tests.proofs.pdu_header_calls.advanced.Goals as goal
 
 -- the options of the worked header
 abbrev worked_options : List ℕ

@@ -1,5 +1,5 @@
 use Rattle.std.proofs.Common.{length}
-use Rattle.call_tests.proofs.pcap_told.tell_pieces.Given as goal
+use Rattle.link_tests.proofs.pcap_told.tell_pieces.Given as goal
 
 abbrev pub decreases-loop-left : goal.decreases-loop-left
 decreases-loop-left l = length l.left
