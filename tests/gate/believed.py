@@ -12,10 +12,12 @@ import os
 import re
 import sys
 
-ROOT = os.path.abspath(os.path.join(os.path.dirname(__file__), "..", ".."))
+import layout
+
+WHERE = layout.Layout(os.path.abspath(os.path.join(os.path.dirname(__file__), "..", "..")))
 # the calls whose contracts are what is promised, and the file that each is in
 CALLS = [("clnp_program", "src/call.rt", "run"), ("clnp_program", "src/top.rt", "clnp_main")]
-# what the headline doesn't speak of: crates and files of other commands than `sim`, of what is said of refused texts, and of
+# what the headline doesn't speak of: crates, parts and files of other commands than `sim`, of what is said of refused texts, and of
 # the program's texts about itself
 OF_OTHERS = [
     "capture_commands", "fair_commands", "live_commands", "link_board", "scenario_advice",
@@ -27,34 +29,28 @@ OF_OTHERS = [
 NAME = r"[A-Za-z_][A-Za-z0-9_]*"
 
 
-def text_of(*parts):
-    with open(os.path.join(ROOT, "crates", *parts), encoding="utf-8") as opened:
-        return opened.read()
-
-
-def crate_names():
-    with open(os.path.join(ROOT, "crates.txt"), encoding="utf-8") as opened:
-        return re.findall(r"^([a-z0-9_]+):", opened.read(), re.MULTILINE)
-
-
-CRATES = crate_names()
+def text_of(crate, file):
+    return layout.read(WHERE.root, WHERE.path(crate, file))
 
 
 def module_of(path):
-    """The crate and the file of the module that a path names, where it is one of this repository's; the type if it is one."""
-    words = path.split(".")
-    if words[0] != "Rattle" or words[1] not in CRATES or words[2] != "specs":
+    """The crate or part and the file of the module that a path names, where it is one of this repository's; the type if it
+    is one."""
+    words, names = path.split("."), WHERE.names()
+    if words[0] != "Rattle" or words[1] not in names or words[2] != "specs":
         return None
     crate, rest = words[1], words[3:]
-    # what a crate passes on stands under the lower crate's name, in capitals: `PduHeader` of `pdu_header`
-    passed_on = {"".join(part.capitalize() for part in name.split("_")): name for name in CRATES}
+    # a part's modules, and what a crate passes on, stand under the part's or lower crate's name, in capitals: `PduHeader`
+    passed_on = {layout.in_capitals(name): name for name in names}
     while rest and passed_on.get(rest[0], crate) != crate:
         crate, rest = passed_on[rest[0]], rest[1:]
     if rest and rest[0] == "declared":
         places = [word for word in rest[1:] if word != "TheVariants"]
+        if places and WHERE.crate_of.get(places[0]) == crate:
+            crate, places = places[0], places[1:]
         for end in range(len(places), 0, -1):
             file = os.path.join("src", *places[:end]) + ".rt"
-            if os.path.exists(os.path.join(ROOT, "crates", crate, file)):
+            if os.path.exists(os.path.join(WHERE.root, WHERE.path(crate, file))):
                 return crate, file, places[end:]
         return crate, "src/lib.rt", places
     return crate, os.path.join("specs", *rest) + ".antt", []
@@ -141,15 +137,19 @@ def believed(headline=False):
 
 
 def files(headline=False):
-    """The files, lowest crates first, in a crate definitions before code."""
-    return [os.path.join("crates", *at) for at in sorted(believed(headline), key=lambda at: (CRATES.index(at[0]), at[1]))]
+    """The files, lowest crates first, in a crate or part definitions before code."""
+    return [WHERE.path(*at) for at in sorted(believed(headline), key=in_order)]
+
+
+def in_order(at):
+    return WHERE.names().index(at[0]), at[1]
 
 
 def main():
     names = believed("--headline" in sys.argv[1:])
-    for crate, file in sorted(names, key=lambda at: (CRATES.index(at[0]), at[1])):
+    for crate, file in sorted(names, key=in_order):
         told = " " + " ".join(sorted(names[crate, file])) if "--definitions" in sys.argv[1:] else ""
-        print(os.path.join("crates", crate, file) + told)
+        print(WHERE.path(crate, file) + told)
 
 
 if __name__ == "__main__":

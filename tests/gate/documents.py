@@ -1,8 +1,8 @@
 #!/usr/bin/env python3
 """Looks whether what the documents name is there.
 
-- docs/PROMISES.md: each crate, call, clause and part in the second column of its tables. A row's second column has
-  references, each behind a `;`: the crate, its calls, and behind them the clauses. What a reference doesn't name it has
+- docs/PROMISES.md: each crate or part, call, clause and field in the second column of its tables. A row's second column has
+  references, each behind a `;`: the crate or part, its calls, and behind them the clauses. What a reference doesn't name it has
   from the one before in its row, and a row's first one from the heading above the table. Likewise the list of calls that
   the program doesn't make.
 - every document: each file that stands in backquotes or in a command of a fenced block, and each heading that stands in
@@ -10,8 +10,9 @@
 - docs/CHANGING.md: the words that stand in backquotes in parentheses right behind a file, in that file; and the files that
   stand by their bare names behind one of a crate's `proofs/`.
 - edits/README.md: the edits in its tables.
-- docs/ARCHITECTURE.md: its picture and its table of crates have each crate of crates.txt, and no other; in the picture each
-  stands on those that it stands on there; the lists of what must be believed
+- docs/ARCHITECTURE.md: its picture has each crate of crates.txt, and no other, each with its parts (`tests/gate/layout.py`) and
+  on those that it stands on there; its table has a row for each part, and for each crate that is more than its parts; the
+  lists of what must be believed
   have each file that `tests/gate/believed.py` finds, that for the headline each that it finds for that, and no other.
 - docs/clnp.1: where mandoc is installed, its lint finds nothing.
 
@@ -25,6 +26,7 @@ import subprocess
 import sys
 
 import believed
+import layout
 
 ROOT = os.path.abspath(sys.argv[1] if len(sys.argv) > 1 else os.path.join(os.path.dirname(__file__), "..", ".."))
 DOCUMENTS = ["README.md", "docs/*.md", "docs/*.1", "tests/README.md", "edits/README.md"]
@@ -37,6 +39,7 @@ NAMES = r"`([^`\n]+)`"
 MODULES_OF_LAWS = ("laws", "attaching", "echo_laws", "link_laws", "pcap_laws", "report_laws")
 
 wrong = []
+where = layout.Layout(ROOT)
 
 
 def text_of(path):
@@ -49,21 +52,17 @@ def paths_of(pattern):
     return sorted(os.path.relpath(path, ROOT) for path in found)
 
 
-def crate_names():
-    return re.findall(r"^([a-z0-9_]+):", text_of("crates.txt"), re.MULTILINE)
-
-
-# What a crate has.
+# What a crate has, or a part of a crate.
 
 
 class Crate:
-    """The calls of a crate with their clauses, its types, and the parts of its records."""
+    """The calls of a crate with their clauses, its types, and the fields of its records."""
 
     def __init__(self, name):
         self.calls, self.types, self.records = {}, set(), {}
-        for path in paths_of(f"crates/{name}/src/**/*.rt"):
+        for path in where.files(name, "src", ".rt"):
             self.add_code(path)
-        for path in paths_of(f"crates/{name}/specs/**/*.antt"):
+        for path in where.files(name, "specs", ".antt"):
             self.add_definitions(path)
 
     def add_code(self, path):
@@ -140,7 +139,7 @@ class Reading:
 
 
 def judge_promises():
-    crates = {name: Crate(name) for name in crate_names()}
+    crates = {name: Crate(name) for name in where.names()}
     rows = references = 0
     for place, line in enumerate(text_of("docs/PROMISES.md").splitlines(), 1):
         if line.startswith("#"):
@@ -172,11 +171,12 @@ def judge_promises():
 
 
 def is_there(name, document, crate):
-    """Whether a file or folder is there: from the repository's root, the document's folder, or that of a crate: the one
-    that stands before the name in its line, or any."""
+    """Whether a file or folder is there: from the repository's root, the document's folder, or that of a crate or part: the
+    one that stands before the name in its line, or any."""
     name = name.removeprefix("./")
-    beginnings = [os.path.join("crates", crate)] if name.startswith(IN_A_CRATE) else ["", os.path.dirname(document)]
-    return any(paths_of(os.path.join(beginning, name)) for beginning in beginnings)
+    if name.startswith(IN_A_CRATE):
+        return any(paths_of(path) for path in where.places(crate, name))
+    return any(paths_of(os.path.join(beginning, name)) for beginning in ("", os.path.dirname(document)))
 
 
 def is_file(name):
@@ -187,8 +187,9 @@ def is_file(name):
 
 
 def files_named(text):
-    """The names of files in a document, each with the crate before it: in backquotes, and in commands of fenced blocks."""
-    crates = set(crate_names())
+    """The names of files in a document, each with the crate or part before it: in backquotes, and in commands of fenced
+    blocks."""
+    crates = set(where.names())
     fenced = re.findall(r"^```\w*\n(.*?)^```$", text, re.MULTILINE | re.DOTALL)
     for command in (line[2:] for block in fenced for line in block.splitlines() if line.startswith("$ ")):
         yield from ((word, "*") for word in re.split(r"[\s;()<>|'\"]+", command) if is_file(word))
@@ -219,7 +220,7 @@ def judge_files():
 
 def judge_changing():
     """What docs/CHANGING.md says is in a file, and the files that it names by their bare names."""
-    crates, words = set(crate_names()), 0
+    crates, words = set(where.names()), 0
     for place, line in enumerate(text_of("docs/CHANGING.md").splitlines(), 1):
         crate = "*"
         for name, inside, others in re.findall(NAMES + r"(?: \(([^)]*)\))?((?:, `[A-Z]\w+`)*)", line):
@@ -227,25 +228,25 @@ def judge_changing():
                 crate = name
             if not is_file(name) or not name.endswith((".rt", ".antt", ".py")):
                 continue
-            beginning = os.path.join("crates", crate) if name.startswith(IN_A_CRATE) else ""
-            text = "".join(text_of(path) for path in paths_of(os.path.join(beginning, name)))
+            places = where.places(crate, name) if name.startswith(IN_A_CRATE) else [name]
+            text = "".join(text_of(path) for place_of in places for path in paths_of(place_of))
             for word in re.findall(r"`(\w+)`", inside):
                 words += 1
                 if not re.search(rf"\b{word}\b", text):
                     wrong.append(f"docs/CHANGING.md, line {place}: `{word}` isn't in `{name}`")
             for other in re.findall(r"`(\w+)`", others) if name.startswith("proofs/") else []:
                 words += 1
-                if not paths_of(os.path.join(beginning, "proofs", other + ".antt")):
+                if not any(paths_of(path) for path in where.places(crate, f"proofs/{other}.antt")):
                     wrong.append(f"docs/CHANGING.md, line {place}: `proofs/{other}.antt` isn't there in `{crate}`")
     return words
 
 
 def judge_edits():
-    """The edits that the tables of edits/README.md name: each is one of the crates of its row."""
+    """The edits that the tables of edits/README.md name: each is one of the crates of its row, or of those of its parts."""
     named = 0
     for place, line in enumerate(text_of("edits/README.md").splitlines(), 1):
         if found := re.match(r"\| (`.*?) \| (.*) \|$", line):
-            crates = re.findall(NAMES, found[1])
+            crates = [where.crate_of.get(name, name) for name in re.findall(NAMES, found[1])]
             for name in re.findall(NAMES, re.sub(r"the call `\w+`", "", found[2])):
                 named += 1
                 if not any(paths_of(f"{folder}/{name}.edit") for crate in crates for folder in (f"edits/{crate}", f"crates/{crate}/must-fail")):
@@ -263,28 +264,37 @@ def section(document, heading):
 
 def judge_crates():
     below = section("docs/ARCHITECTURE.md", "The crates")
-    listed, known = re.findall(r"^\| `(\w+)` \|", below, re.MULTILINE), crate_names()
+    listed, known = re.findall(r"^\| `(\w+)` \|", below, re.MULTILINE), where.crates
+    told = [name for name in where.names() if not (name in known and where.is_of_parts_alone(name))]
     drawn = {name: (on or "").split(", ") for name, on in re.findall(r"^  (\w+)  +\S.*\n(?: +on (.*)\n)?", below, re.MULTILINE)}
     for name, on in re.findall(r"^([a-z0-9_]+):(.*)$", text_of("crates.txt"), re.MULTILINE):
         if sorted(drawn.get(name, [])) != (sorted(set(on.split()) & set(known)) or [""]):
             wrong.append(f"docs/ARCHITECTURE.md: in the picture `{name}` doesn't stand on those of crates.txt:{on}")
-    for name in sorted(set(known) - set(listed)):
-        wrong.append(f"docs/ARCHITECTURE.md: no row of its table is of the crate `{name}`")
-    for name in sorted(set(listed) - set(known)):
-        wrong.append(f"docs/ARCHITECTURE.md: the crate `{name}` isn't in crates.txt")
+    for name in sorted(set(drawn) - set(known)):
+        wrong.append(f"docs/ARCHITECTURE.md: the crate `{name}` of the picture isn't in crates.txt")
+    parts, crate = [], None
+    for name, part in re.findall(r"^  (\w+)  +\S|^    (\w+)  +\S", below, re.MULTILINE):
+        crate = name or crate
+        parts += [(crate, part)] if part else []
+    for crate, part in sorted(set(parts) ^ {(crate, part) for part, crate in where.crate_of.items()}):
+        wrong.append(f"docs/ARCHITECTURE.md: `{part}` of `{crate}` stands in the picture and not in the crate, or the other way round")
+    for name in sorted(set(told) - set(listed)):
+        wrong.append(f"docs/ARCHITECTURE.md: no row of its table is of `{name}`")
+    for name in sorted(set(listed) - set(told)):
+        wrong.append(f"docs/ARCHITECTURE.md: `{name}` of its table is neither a part nor a crate with more than parts")
 
 
 def files_listed(text):
-    """The files in a list of what must be believed: a row for each crate, with definitions and code."""
+    """The files in a list of what must be believed: a row for each crate or part, with definitions and code."""
     for row in re.findall(r"^\| `.*$", text, re.MULTILINE):
         crate, specs, code = (re.sub(r"\(.*?\)", "", cell) for cell in row.strip("|").split("|"))
         crate = re.findall(NAMES, crate)[0]
-        yield from (f"crates/{crate}/specs/{name}.antt" for name in re.findall(NAMES, specs))
-        yield from (f"crates/{crate}/src/{name}.rt" for name in re.findall(NAMES, code))
+        yield from (where.path(crate, f"specs/{name}.antt") for name in re.findall(NAMES, specs))
+        yield from (where.path(crate, f"src/{name}.rt") for name in re.findall(NAMES, code))
 
 
 def judge_believed():
-    believed.ROOT, believed.CRATES = ROOT, crate_names()
+    believed.WHERE = where
     below = section("docs/ARCHITECTURE.md", "What must be read and believed")
     headline, _, others = below.partition("### For the other promises")
     of_headline, all_found = set(believed.files(headline=True)), set(believed.files())

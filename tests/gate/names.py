@@ -12,6 +12,8 @@ import os
 import re
 import sys
 
+import layout
+
 ROOT = os.path.abspath(sys.argv[1] if len(sys.argv) > 1 else os.path.join(os.path.dirname(__file__), "..", ".."))
 NAMED = re.compile(r"use Rattle\.([\w.+]+) as (\w+)")
 
@@ -22,19 +24,24 @@ def files():
             yield from glob.glob(os.path.join(ROOT, "crates", "*", part, "**", f"*.{suffix}"), recursive=True)
 
 
+WHERE = layout.Layout(ROOT)
+
+
 def crates_by_passed_name():
-    """The crates by the names under which others pass them on: `clnp_plan` as `ClnpPlan`."""
-    with open(os.path.join(ROOT, "crates.txt"), encoding="utf-8") as opened:
-        names = re.findall(r"^([a-z0-9_]+):", opened.read(), re.MULTILINE)
-    return {"".join(word.capitalize() for word in name.split("_")): name for name in names}
+    """The crates and parts by the names under which others pass them on, and under which a part's own modules stand:
+    `clnp_plan` as `ClnpPlan`."""
+    names = {layout.in_capitals(name): name for name in WHERE.names()}
+    return {**names, **{layout.in_proofs(part): part for part in WHERE.crate_of}}
 
 
 def module_of(path, crates):
-    """The module of a path, named by its own crate."""
+    """The module of a path, named by its own crate or part."""
     crate, *rest = path.split(".")
     kind, rest = rest[:1], rest[1:]
     while rest and rest[0] in crates:
         crate, rest = crates[rest[0]], rest[1:]
+    if rest[:1] == ["declared"] and WHERE.crate_of.get(rest[1]) == crate:
+        crate, rest = rest[1], ["declared", *rest[2:]]
     return ".".join([crate, *kind, *rest])
 
 

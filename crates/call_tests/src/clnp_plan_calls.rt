@@ -1,15 +1,15 @@
 ghost use Rattle.std.specs.Prelude.{◌≡◌};
-ghost use Rattle.scenario_writing.specs.Scenario.ClnpPlan.Configuration.{IsPort};
+ghost use Rattle.scenario.specs.ClnpPlan.Configuration.{IsPort};
 
 use crate::seeing::see;
-use scenario_writing::scenarios::clnp::Kind;
-use scenario_writing::scenarios::nsaps::{Address, Prefix, Snpa, Target};
-use scenario_writing::scenarios::routing::Route;
-use scenario_writing::scenarios::system_plan::{
+use scenario::scenario_writing::scenarios::clnp::Kind;
+use scenario::scenario_writing::scenarios::nsaps::{Address, Prefix, Snpa, Target};
+use scenario::scenario_writing::scenarios::routing::Route;
+use scenario::scenario_writing::scenarios::system_plan::{
     Note, PortConfig, Role, Settings, SystemConfig, Why, journal_text, late_text, push_end,
     transmission_text, void_text,
 };
-use scenario_writing::scenarios::views::Frame;
+use scenario::scenario_writing::scenarios::views::Frame;
 use std::alloc::Global;
 use std::mem::forget;
 use std::process::Abort;

@@ -1,6 +1,8 @@
 use crate::seeing::see;
-use scenario_writing::scenarios::hearing::{EsisLimits, Gone, Heard, Neighbour, TableKind, Tables};
-use scenario_writing::scenarios::nsaps::{Address, Snpa};
+use scenario::scenario_writing::scenarios::hearing::{
+    EsisLimits, Gone, Heard, Neighbour, TableKind, Tables,
+};
+use scenario::scenario_writing::scenarios::nsaps::{Address, Snpa};
 use std::alloc::Global;
 use std::mem::forget;
 use std::process::Abort;

@@ -1,5 +1,5 @@
-use scenario_writing::scenarios::nsaps::{Address, Prefix, Snpa};
-use scenario_writing::scenarios::routing::{Route, RouteRefusal, Routes};
+use scenario::scenario_writing::scenarios::nsaps::{Address, Prefix, Snpa};
+use scenario::scenario_writing::scenarios::routing::{Route, RouteRefusal, Routes};
 use std::alloc::Global;
 use std::mem::forget;
 use std::process::Abort;

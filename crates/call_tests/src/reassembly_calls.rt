@@ -1,17 +1,17 @@
 //! Tables of reassembly buffers. A segment has a header of 25 octets. A test is a list of what is done with a table, one
 //! step after the other, and of what must come of it.
-ghost use Rattle.reassembly.specs.Offered.{MayCome};
-ghost use Rattle.reassembly.specs.NoWhole.{HasNoWhole, IsCompleted};
-ghost use Rattle.reassembly.specs.State.{IsWholeSlot};
+ghost use Rattle.system_tables.specs.Reassembly.Offered.{MayCome};
+ghost use Rattle.system_tables.specs.Reassembly.NoWhole.{HasNoWhole, IsCompleted};
+ghost use Rattle.system_tables.specs.Reassembly.State.{IsWholeSlot};
 
 use crate::reassembly_calls::Step::{Clear, End, Fill, InSlot, Offer, Rest, Undo, Whole};
 use crate::seeing::see;
-use reassembly::{Accept, Key, Segment, Shape, SlotNo, Table, TableLimits};
-use scenario_writing::scenarios::nsaps::Address;
-use scenario_writing::scenarios::views::Frame;
+use scenario::scenario_writing::scenarios::nsaps::Address;
+use scenario::scenario_writing::scenarios::views::Frame;
 use std::alloc::Global;
 use std::mem::forget;
 use std::process::Abort;
+use system_tables::reassembly::{Accept, Key, Segment, Shape, SlotNo, Table, TableLimits};
 
 const LIMITS: TableLimits = TableLimits {
     slots: 16,

@@ -1,10 +1,10 @@
 use crate::seeing::see;
-use scenario_writing::scenarios::base::lines;
-use scenario_writing::scenarios::system_plan::{Limits, PortConfig, Role, SystemConfig};
-use scenario_writing::scenarios::{
+use scenario::scenario_writing::scenarios::base::lines;
+use scenario::scenario_writing::scenarios::system_plan::{Limits, PortConfig, Role, SystemConfig};
+use scenario::scenario_writing::scenarios::{
     Body, Event, Scenario, ScenarioRefusal, Subnet, read, read_for_run, read_version_1,
 };
-use scenario_writing::{from_seed, migrate, write};
+use scenario::scenario_writing::{from_seed, migrate, write};
 use std::alloc::Global;
 use std::mem::forget;
 use std::process::Abort;

@@ -2,10 +2,10 @@
 use Rattle.std.proofs.Common.{◌≡◌, ◌↔◌, ℕ, ◌==◌, Bool, true, false, List, Option, Some, None, MatchBool, MatchOption, refl, ap, sym, ◌∙◌}
 use Rattle.std.proofs.lemmas.Bool.{eqb-true}
 use Rattle.hex.specs.Hex.{IsBytes}
-use Rattle.esis_pdus.specs.ClnpOptions.declared.judge.OptionRefusal.{OptionRefusal}
-use Rattle.esis_pdus.specs.PduHeader.Grammar.{BeginsWith}
-use Rattle.esis_pdus.specs.PduHeader.Rules.{octet, refusal, is_reportable}
-use Rattle.esis_pdus.specs.PduHeader.Value.{PduValue}
+use Rattle.pdus.specs.declared.clnp_options.judge.OptionRefusal.{OptionRefusal}
+use Rattle.pdus.specs.PduHeader.Grammar.{BeginsWith}
+use Rattle.pdus.specs.PduHeader.Rules.{octet, refusal, is_reportable}
+use Rattle.pdus.specs.PduHeader.Value.{PduValue}
 use Rattle.captures.specs.Shown.{Shows, ShowsValue, value_text, refusal_text}
 use Rattle.captures.specs.Words.{checksum_of}
 use Rattle.captures.specs.EsisShown.{ShowsOther}

@@ -2,12 +2,12 @@
 use Rattle.std.proofs.Common.{◌≡◌, ◌↔◌, ℕ, ◌==◌, Bool, true, false, if◌then◌else◌, List, Option, Some, None, MatchOption, refl, ap, sym, ◌∙◌}
 use Rattle.std.proofs.lemmas.Bool.{eqb-true}
 use Rattle.hex.specs.Hex.{IsBytes}
-use Rattle.esis_pdus.specs.Fletcher.Checksum.{octet}
-use Rattle.esis_pdus.specs.declared.pdu.EsisRefusal.{EsisRefusal}
-use Rattle.esis_pdus.specs.declared.pdu.EsisRefusal.TheVariants.{NotEsis}
-use Rattle.esis_pdus.specs.Grammar.{BeginsWith}
-use Rattle.esis_pdus.specs.Rules.{refusal, why_refused}
-use Rattle.esis_pdus.specs.Value.{EsisValue}
+use Rattle.pdus.specs.Fletcher.Checksum.{octet}
+use Rattle.pdus.specs.declared.esis_pdus.pdu.EsisRefusal.{EsisRefusal}
+use Rattle.pdus.specs.declared.esis_pdus.pdu.EsisRefusal.TheVariants.{NotEsis}
+use Rattle.pdus.specs.EsisPdus.Grammar.{BeginsWith}
+use Rattle.pdus.specs.EsisPdus.Rules.{refusal, why_refused}
+use Rattle.pdus.specs.EsisPdus.Value.{EsisValue}
 use Rattle.captures.specs.Words.{checksum_of}
 use Rattle.captures.specs.EsisShown.{ShowsOther, ShowsEsis, esis_text, esis_refusal_text}
 

@@ -2,7 +2,7 @@
 use Rattle.std.specs.Prelude.{◌≡◌, ◌↔◌, ℕ, nat_lt, Bool, false, if◌then◌else◌, List, length, Result, Ok, Err}
 use Rattle.hex.specs.Hex.{decode_of}
 use Rattle.hex.specs.declared.error.FromHexError.{FromHexError}
-pub use Rattle.esis_pdus.specs.ClnpBase.Text.{is_skipped}
+pub use Rattle.pdus.specs.ClnpBase.Text.{is_skipped}
 use Rattle.captures.specs.declared.capture.LineRefusal.{LineRefusal}
 use Rattle.captures.specs.declared.capture.LineRefusal.TheVariants.{Syntax, Count}
 

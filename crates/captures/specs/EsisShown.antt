@@ -1,15 +1,15 @@
 -- The line of text that shows an ES-IS frame (ISO 9542), and every frame that is neither CLNP nor ES-IS.
 use Rattle.std.specs.Prelude.{◌≡◌, ℕ, List, [], ◌∷◌, ◌++◌, codes, MatchOption}
 use Rattle.std.specs.Fmt.{decimal}
-use Rattle.esis_pdus.specs.Nsap.Text.{hex_text}
-use Rattle.esis_pdus.specs.declared.pdu.EsisBody.{EsisBody}
-use Rattle.esis_pdus.specs.declared.pdu.EsisBody.TheVariants.{Esh, Ish, Rd}
-use Rattle.esis_pdus.specs.declared.pdu.EsisRefusal.{EsisRefusal}
-use Rattle.esis_pdus.specs.declared.pdu.EsisRefusal.TheVariants.{NotEsis, Broken}
-use Rattle.esis_pdus.specs.Value.{EsisValue}
-use Rattle.esis_pdus.specs.Spelling.{title_octets}
-use Rattle.esis_pdus.specs.Grammar.{BeginsWith}
-use Rattle.esis_pdus.specs.Rules.{why_refused}
+use Rattle.pdus.specs.Nsap.Text.{hex_text}
+use Rattle.pdus.specs.declared.esis_pdus.pdu.EsisBody.{EsisBody}
+use Rattle.pdus.specs.declared.esis_pdus.pdu.EsisBody.TheVariants.{Esh, Ish, Rd}
+use Rattle.pdus.specs.declared.esis_pdus.pdu.EsisRefusal.{EsisRefusal}
+use Rattle.pdus.specs.declared.esis_pdus.pdu.EsisRefusal.TheVariants.{NotEsis, Broken}
+use Rattle.pdus.specs.EsisPdus.Value.{EsisValue}
+use Rattle.pdus.specs.EsisPdus.Spelling.{title_octets}
+use Rattle.pdus.specs.EsisPdus.Grammar.{BeginsWith}
+use Rattle.pdus.specs.EsisPdus.Rules.{why_refused}
 use Rattle.captures.specs.Words.{octet_word, pair_word, options_text, checksum_of}
 
 -- an end system hello, an intermediate system hello, a redirect

@@ -1,11 +1,11 @@
 -- The line of text that shows a frame.
 use Rattle.std.specs.Prelude.{◌≡◌, ℕ, ◌==◌, Bool, if◌then◌else◌, List, [], ◌∷◌, ◌++◌, codes, Option, Some, None, is_some, MatchBool, MatchOption}
 use Rattle.std.specs.Fmt.{decimal}
-use Rattle.esis_pdus.specs.Nsap.Text.{hex_text}
-pub use Rattle.esis_pdus.specs.PduHeader.Kinds.{kind_word}
-use Rattle.esis_pdus.specs.PduHeader.Value.{SegmentationPart, PduValue}
-use Rattle.esis_pdus.specs.PduHeader.Grammar.{BeginsWith}
-use Rattle.esis_pdus.specs.PduHeader.Rules.{octet, refusal, is_reportable}
+use Rattle.pdus.specs.Nsap.Text.{hex_text}
+pub use Rattle.pdus.specs.PduHeader.Kinds.{kind_word}
+use Rattle.pdus.specs.PduHeader.Value.{SegmentationPart, PduValue}
+use Rattle.pdus.specs.PduHeader.Grammar.{BeginsWith}
+use Rattle.pdus.specs.PduHeader.Rules.{octet, refusal, is_reportable}
 use Rattle.captures.specs.Words.{octet_word, pair_word, options_text, checksum_of}
 use Rattle.captures.specs.EsisShown.{ShowsOther}
 

@@ -1,9 +1,9 @@
 -- Words of shown lines, of both protocols.
 use Rattle.std.specs.Prelude.{ℕ, List, [], ◌∷◌, ◌++◌, codes}
-use Rattle.esis_pdus.specs.Nsap.Text.{hex_text}
-use Rattle.esis_pdus.specs.ClnpOptions.Parameter.{Parameter}
-use Rattle.esis_pdus.specs.PduHeader.Spelling.{pair_of}
-use Rattle.esis_pdus.specs.PduHeader.Rules.{pair_at, header_of}
+use Rattle.pdus.specs.Nsap.Text.{hex_text}
+use Rattle.pdus.specs.ClnpOptions.Parameter.{Parameter}
+use Rattle.pdus.specs.PduHeader.Spelling.{pair_of}
+use Rattle.pdus.specs.PduHeader.Rules.{pair_at, header_of}
 
 -- an octet in two hexadecimal digits
 abbrev pub octet_word : ℕ → List ℕ

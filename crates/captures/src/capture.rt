@@ -4,7 +4,7 @@ ghost use Rattle.hex.specs.Hex.{is_hex_digit, decode_of};
 ghost use Rattle.captures.specs.Captures.{capture_of, Skipped, Malformed, TooLong, Frame, Tells};
 
 use crate::digits::push_spelled;
-use esis_pdus::base::{DigitValues, HexFault, is_skipped};
+use pdus::esis_pdus::base::{DigitValues, HexFault, is_skipped};
 
 /// The most octets of a frame.
 pub const MOST_OCTETS: usize = 70_000;

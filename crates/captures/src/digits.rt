@@ -1,9 +1,9 @@
 //! Hexadecimal digits read, where what each is worth is known.
 ghost use Rattle.std.specs.Prelude.{◌≡◌, ◌%◌, ◌↔◌, length, OnOk, OnErr};
 ghost use Rattle.hex.specs.Hex.{decode_of};
-ghost use Rattle.captures.specs.ClnpBase.Hexadecimal.{AppendsSpelled, IsDigitRefusal};
+ghost use Rattle.pdus.specs.ClnpBase.Hexadecimal.{AppendsSpelled, IsDigitRefusal};
 
-use esis_pdus::base::{DigitValues, HexFault};
+use pdus::esis_pdus::base::{DigitValues, HexFault};
 
 /// Appends the octets that hexadecimal digits in either case spell, two digits an octet. It does what `push_unhex`
 /// does, for texts of many words: what digits are worth isn't asked anew for each.

@@ -1,16 +1,16 @@
 //! ES-IS frames as lines of text.
 
 ghost use Rattle.std.specs.Prelude.{◌≡◌, ◌++◌, OnErr, OnOk, codes, option_map, ℕ, List};
-ghost use Rattle.esis_pdus.specs.Spelling.{title_octets};
-ghost use Rattle.esis_pdus.specs.View.{pdu_value};
-ghost use Rattle.esis_pdus.specs.Nsap.Text.{hex_text};
+ghost use Rattle.pdus.specs.EsisPdus.Spelling.{title_octets};
+ghost use Rattle.pdus.specs.EsisPdus.View.{pdu_value};
+ghost use Rattle.pdus.specs.Nsap.Text.{hex_text};
 ghost use Rattle.captures.specs.Kept.{Keeps};
 ghost use Rattle.captures.specs.EsisShown.{ShowsOther, addresses_text, body_text, esis_refusal_text, esis_text, esis_word};
 
 use crate::words::{push_octets, push_options, push_pair};
-use esis_pdus::base::{NoMemory, push, push_number};
-use esis_pdus::nsaps::Address;
-use esis_pdus::{AddressList, EsisBody, EsisPdu, EsisRefusal, decode};
+use pdus::esis_pdus::base::{NoMemory, push, push_number};
+use pdus::esis_pdus::nsaps::Address;
+use pdus::esis_pdus::{AddressList, EsisBody, EsisPdu, EsisRefusal, decode};
 
 /// Appends the text of a frame that doesn't begin with 0x81.
 pub(crate) fn push_other(frame: &[u8], line: &mut Vec<u8>) -> Result<(), NoMemory>

@@ -6,8 +6,8 @@ ghost use Rattle.captures.specs.Shown.{Shows};
 ghost use Rattle.captures.specs.Vectors.{Judges};
 
 use crate::vector::Verdict;
-use esis_pdus::clnp::laws as clnp;
-use esis_pdus::laws as esis;
+use pdus::esis_pdus::clnp::laws as clnp;
+use pdus::esis_pdus::laws as esis;
 
 /// Each frame of octets is shown by one line, and by no other.
 pub fn one_line()

@@ -2,6 +2,8 @@
 #![tactic(auto)]
 
 mod capture;
+pub mod capture_commands;
+pub mod capture_text;
 mod digits;
 mod esis;
 pub mod laws;
@@ -12,7 +14,7 @@ mod words;
 
 pub use capture::{LineRefusal, MOST_OCTETS};
 pub use digits::push_spelled;
-pub use esis_pdus::base::is_skipped;
+pub use pdus::esis_pdus::base::is_skipped;
 pub use single::{check_line, read_capture, show_line};
 pub use vector::Verdict;
 
@@ -25,17 +27,17 @@ pub mod many {
 
 /// CLNP PDUs.
 pub mod clnp {
-    pub use esis_pdus::clnp::Kind;
+    pub use pdus::esis_pdus::clnp::Kind;
 }
 
 /// ES-IS PDUs.
 pub mod esis_values {
-    pub use esis_pdus::{HelloRefusal, decode, encode, esh, ish, laws, rd};
+    pub use pdus::esis_pdus::{HelloRefusal, decode, encode, esh, ish, laws, rd};
 }
 
 /// Octets and text.
 pub mod base {
-    pub use esis_pdus::base::{
+    pub use pdus::esis_pdus::base::{
         DigitValues, HexFault, NoMemory, decimal, next_line, next_word, push, push_hex, same, words,
     };
 }

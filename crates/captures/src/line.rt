@@ -1,14 +1,14 @@
 //! Frames as lines of text.
 
 ghost use Rattle.std.specs.Prelude.{◌≡◌, ◌++◌, OnOk, OnErr, option_map, ℕ, List};
-ghost use Rattle.esis_pdus.specs.PduHeader.View.{pdu_value, part_value};
+ghost use Rattle.pdus.specs.PduHeader.View.{pdu_value, part_value};
 ghost use Rattle.captures.specs.Kept.{Keeps};
 ghost use Rattle.captures.specs.Shown.{Shows, refusal_text, front_text, kind_and_flags_text, part_text, segmentation_text, value_text};
 
 use crate::esis::push_other;
 use crate::words::{flags_text, push_octets, push_options, push_pair, report_text};
-use esis_pdus::base::{NoMemory, push, push_number};
-use esis_pdus::clnp::{Broken, Pdu, Refusal, SegPart, decode};
+use pdus::esis_pdus::base::{NoMemory, push, push_number};
+use pdus::esis_pdus::clnp::{Broken, Pdu, Refusal, SegPart, decode};
 
 /// Appends the line that shows a frame, without a `\n` (ISO 8473, sections 7 and 7.9.5).
 ///

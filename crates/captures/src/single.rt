@@ -10,7 +10,7 @@ ghost use Rattle.captures.specs.Vectors.{JudgesLine, vector_of};
 use crate::capture::LineRefusal;
 use crate::many;
 use crate::vector::Verdict;
-use esis_pdus::base::{DigitValues, NoMemory};
+use pdus::esis_pdus::base::{DigitValues, NoMemory};
 use std::alloc::Global;
 
 /// Appends the line that shows a frame, as `many::show_line` does.

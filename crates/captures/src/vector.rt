@@ -8,7 +8,7 @@ ghost use Rattle.captures.specs.Vectors.{vector_of, Skipped, Malformed, TooLong,
 
 use crate::capture::{LineRefusal, read_capture};
 use crate::line::show_line;
-use esis_pdus::base::{DigitValues, NoMemory, is_skipped, push, push_decimal};
+use pdus::esis_pdus::base::{DigitValues, NoMemory, is_skipped, push, push_decimal};
 use std::alloc::Global;
 
 /// The verdict on a line of a file of vectors.

@@ -1,14 +1,14 @@
 //! The words and fields of a shown line.
 
 ghost use Rattle.std.specs.Prelude.{◌≡◌, ◌++◌, OnErr, OnOk};
-ghost use Rattle.esis_pdus.specs.Nsap.Text.{hex_text};
+ghost use Rattle.pdus.specs.Nsap.Text.{hex_text};
 ghost use Rattle.captures.specs.Kept.{Keeps};
 ghost use Rattle.captures.specs.Shown.{flags_word, letters_of, report_word};
 ghost use Rattle.captures.specs.Words.{pair_word, option_text, options_text};
-ghost use Rattle.esis_pdus.specs.ClnpOptions.Parameter.{parameters};
+ghost use Rattle.pdus.specs.ClnpOptions.Parameter.{parameters};
 
-use esis_pdus::base::{NoMemory, push, push_hex};
-use esis_pdus::first_option;
+use pdus::esis_pdus::base::{NoMemory, push, push_hex};
+use pdus::esis_pdus::first_option;
 
 /// Appends a label, and octets as hexadecimal digits in lower case.
 pub(crate) fn push_octets(label: &[u8], octets: &[u8], line: &mut Vec<u8>) -> Result<(), NoMemory>

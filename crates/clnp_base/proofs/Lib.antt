@@ -16,3 +16,4 @@ pub mod SameOctets
 pub mod Sums
 pub mod Supplying
 mod Worths
+pub mod CommandBase

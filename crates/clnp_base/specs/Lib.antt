@@ -5,3 +5,4 @@ pub mod Memory
 pub mod Moments
 pub mod Streams
 pub mod Text
+pub mod CommandBase

@@ -2,6 +2,7 @@
 #![tactic(auto)]
 
 mod clock;
+pub mod command_base;
 mod copying;
 mod digits;
 mod inline;

@@ -6,18 +6,18 @@ use Rattle.std.proofs.lemmas.List.Elements.{filter-append}
 use Rattle.std.proofs.lemmas.List.Folds.{list_any-append}
 use Rattle.clnp_plan.proofs.ClnpBase.Lists.{AllByRecursion-append}
 use Rattle.clnp_plan.specs.ClnpOptions.Parameter.{Parameter}
-use Rattle.clnp_plan.specs.ClnpOptions.declared.judge.OptionRefusal.{OptionRefusal}
-use Rattle.esis_pdus.specs.declared.pdu.EsisBody.{EsisBody}
-use Rattle.esis_pdus.specs.declared.pdu.EsisBody.TheVariants as body
-use Rattle.esis_pdus.specs.declared.pdu.EsisBody.TheVariants.{Esh, Ish}
-use Rattle.esis_pdus.specs.Value.{EsisValue, suggested}
-use Rattle.clnp_plan.specs.EsisTables.declared.fact.Neighbour.{Neighbour}
-use Rattle.clnp_plan.specs.EsisTables.declared.fact.TableKind.TheVariants.{Es, Is, Rd}
+use Rattle.clnp_plan.specs.Pdus.declared.clnp_options.judge.OptionRefusal.{OptionRefusal}
+use Rattle.pdus.specs.declared.esis_pdus.pdu.EsisBody.{EsisBody}
+use Rattle.pdus.specs.declared.esis_pdus.pdu.EsisBody.TheVariants as body
+use Rattle.pdus.specs.declared.esis_pdus.pdu.EsisBody.TheVariants.{Esh, Ish}
+use Rattle.pdus.specs.EsisPdus.Value.{EsisValue, suggested}
+use Rattle.clnp_plan.specs.SystemTables.declared.esis_tables.fact.Neighbour.{Neighbour}
+use Rattle.clnp_plan.specs.SystemTables.declared.esis_tables.fact.TableKind.TheVariants.{Es, Is, Rd}
 use Rattle.clnp_plan.specs.EsisTables.Fact.{answer}
 use Rattle.clnp_plan.specs.EsisTables.NextHop.{is_router}
-use Rattle.clnp_plan.specs.Nsap.declared.target.Target.TheVariants.{System}
+use Rattle.clnp_plan.specs.Pdus.declared.nsap.target.Target.TheVariants.{System}
 use Rattle.clnp_plan.specs.PduHeader.Rules.{is_reportable, octet, refusal as rule_broken}
-use Rattle.esis_pdus.specs.Rules.{why_refused}
+use Rattle.pdus.specs.EsisPdus.Rules.{why_refused}
 use Rattle.clnp_plan.specs.declared.note.Note.{Note}
 use Rattle.clnp_plan.specs.declared.note.Note.TheVariants.{Discard, Ignored}
 use Rattle.clnp_plan.specs.Configuration.{SystemConfiguration}

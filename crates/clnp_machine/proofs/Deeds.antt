@@ -7,17 +7,17 @@ use Rattle.std.specs.List.{AllByRecursion, find, list_any}
 use Rattle.std.specs.Str.{bytes_eq}
 use Rattle.clnp_plan.specs.ClnpOptions.Parameter.{Parameter}
 use Rattle.clnp_plan.specs.ClnpOptions.Reasons.{reason_code}
-use Rattle.clnp_plan.specs.ClnpOptions.declared.judge.OptionRefusal.{OptionRefusal}
-use Rattle.clnp_plan.specs.ClnpOptions.declared.reasons.Reason.TheVariants.{LifetimeExpiredInReassembly, NotSpecified}
-use Rattle.clnp_plan.specs.PduHeader.declared.kind.Kind.{Kind}
-use Rattle.clnp_plan.specs.PduHeader.declared.kind.Kind.TheVariants.{Dt, Er, Erq, Erp}
+use Rattle.clnp_plan.specs.Pdus.declared.clnp_options.judge.OptionRefusal.{OptionRefusal}
+use Rattle.clnp_plan.specs.Pdus.declared.clnp_options.reasons.Reason.TheVariants.{LifetimeExpiredInReassembly, NotSpecified}
+use Rattle.clnp_plan.specs.Pdus.declared.pdu_header.kind.Kind.{Kind}
+use Rattle.clnp_plan.specs.Pdus.declared.pdu_header.kind.Kind.TheVariants.{Dt, Er, Erq, Erp}
 use Rattle.clnp_plan.specs.PduHeader.Rules.{header_of, is_reportable, octet, refusal as rule_broken}
-use Rattle.made_pdus.specs.Report.{reason_option, source_of}
-use Rattle.reassembly.specs.Arrival.{Arrival, same_key}
-use Rattle.reassembly.specs.Buffer as buffer
-use Rattle.reassembly.specs.Buffer.{Answer, Buffer, held, size_of}
-use Rattle.esis_pdus.specs.Rules.{why_refused}
-use Rattle.clnp_plan.specs.EsisTables.declared.fact.Neighbour.{Neighbour}
+use Rattle.pdus.specs.MadePdus.Report.{reason_option, source_of}
+use Rattle.system_tables.specs.Reassembly.Arrival.{Arrival, same_key}
+use Rattle.system_tables.specs.Reassembly.Buffer as buffer
+use Rattle.system_tables.specs.Reassembly.Buffer.{Answer, Buffer, held, size_of}
+use Rattle.pdus.specs.EsisPdus.Rules.{why_refused}
+use Rattle.clnp_plan.specs.SystemTables.declared.esis_tables.fact.Neighbour.{Neighbour}
 use Rattle.clnp_plan.proofs.ClnpBase.SameOctets.{same-itself}
 use Rattle.clnp_plan.specs.Configuration.{SystemConfiguration}
 use Rattle.clnp_plan.specs.declared.ask.Ask.{Ask}

@@ -5,10 +5,10 @@ use Rattle.std.proofs.lemmas.Bool.{cases_Bool, not-false}
 use Rattle.std.proofs.lemmas.List.Elements.{Contains-append_right}
 use Rattle.clnp_plan.proofs.ClnpBase.Filters.{AllByRecursion-filter, filter-fewer}
 use Rattle.clnp_plan.proofs.ClnpBase.Lists.{AllByRecursion-contains, AllByRecursion-implies}
-use Rattle.reassembly.specs.declared.segment.Key.{Key}
-use Rattle.reassembly.specs.Arrival.{same_key}
-use Rattle.reassembly.specs.Buffer.{Buffer, due, without}
-use Rattle.reassembly.proofs.Shared.{due_is, same_key-refl}
+use Rattle.system_tables.specs.declared.reassembly.segment.Key.{Key}
+use Rattle.system_tables.specs.Reassembly.Arrival.{same_key}
+use Rattle.system_tables.specs.Reassembly.Buffer.{Buffer, due, without}
+use Rattle.system_tables.proofs.ReassemblyFacts.Shared.{due_is, same_key-refl}
 use Rattle.clnp_plan.specs.declared.config.Limits.{Limits}
 use Rattle.clnp_machine.specs.Unit.{Packet}
 use Rattle.clnp_machine.specs.System.{SystemState, IsRestarted, MomentComes}

@@ -3,12 +3,12 @@ use Rattle.std.proofs.Common.{◌≡◌, ◌≢◌, ◌∙◌, refl, sym, ap, su
 use Rattle.std.specs.Prelude.{◌==◌, ◌||◌, min, if◌then◌else◌}
 use Rattle.std.specs.List.{flat_map}
 use Rattle.std.proofs.lemmas.Bool.{cond-false, eqb-false, ne_eqb, or_from}
-use Rattle.esis_pdus.specs.declared.pdu.EsisBody.{EsisBody}
-use Rattle.esis_pdus.specs.declared.pdu.EsisBody.TheVariants as body
-use Rattle.esis_pdus.specs.declared.pdu.EsisBody.TheVariants.{Esh, Ish}
-use Rattle.esis_pdus.specs.Value.{EsisValue, suggested}
-use Rattle.clnp_plan.specs.EsisTables.declared.fact.Neighbour.{Neighbour}
-use Rattle.clnp_plan.specs.EsisTables.declared.fact.TableKind.TheVariants.{Es, Is, Rd}
+use Rattle.pdus.specs.declared.esis_pdus.pdu.EsisBody.{EsisBody}
+use Rattle.pdus.specs.declared.esis_pdus.pdu.EsisBody.TheVariants as body
+use Rattle.pdus.specs.declared.esis_pdus.pdu.EsisBody.TheVariants.{Esh, Ish}
+use Rattle.pdus.specs.EsisPdus.Value.{EsisValue, suggested}
+use Rattle.clnp_plan.specs.SystemTables.declared.esis_tables.fact.Neighbour.{Neighbour}
+use Rattle.clnp_plan.specs.SystemTables.declared.esis_tables.fact.TableKind.TheVariants.{Es, Is, Rd}
 use Rattle.clnp_plan.specs.EsisTables.Fact.{Fact}
 use Rattle.clnp_plan.specs.EsisTables.Gone.{gone}
 use Rattle.clnp_plan.specs.EsisTables.NextHop.{is_router}

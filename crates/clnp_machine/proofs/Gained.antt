@@ -5,14 +5,14 @@ use Rattle.std.proofs.Common.{refl, sym, subst, ℕ, zero, suc, inl, inr, Bool, 
 use Rattle.std.specs.Prelude.{◌==◌, if◌then◌else◌, slice_get}
 use Rattle.std.specs.List.{AllByRecursion, find}
 use Rattle.clnp_plan.specs.PduHeader.Rules.{is_reportable, octet, refusal as rule_broken}
-use Rattle.clnp_plan.specs.ClnpOptions.declared.judge.OptionRefusal.{OptionRefusal}
+use Rattle.clnp_plan.specs.Pdus.declared.clnp_options.judge.OptionRefusal.{OptionRefusal}
 use Rattle.clnp_plan.specs.ClnpOptions.Parameter.{Parameter}
-use Rattle.clnp_plan.specs.PduHeader.declared.kind.Kind.{Kind}
-use Rattle.clnp_plan.specs.PduHeader.declared.kind.Kind.TheVariants.{Dt, Er, Erq, Erp}
-use Rattle.reassembly.specs.Arrival.{Arrival, same_key}
-use Rattle.reassembly.specs.Buffer as buffer
-use Rattle.reassembly.specs.Buffer.{Answer, Buffer}
-use Rattle.clnp_plan.specs.EsisTables.declared.fact.Neighbour.{Neighbour}
+use Rattle.clnp_plan.specs.Pdus.declared.pdu_header.kind.Kind.{Kind}
+use Rattle.clnp_plan.specs.Pdus.declared.pdu_header.kind.Kind.TheVariants.{Dt, Er, Erq, Erp}
+use Rattle.system_tables.specs.Reassembly.Arrival.{Arrival, same_key}
+use Rattle.system_tables.specs.Reassembly.Buffer as buffer
+use Rattle.system_tables.specs.Reassembly.Buffer.{Answer, Buffer}
+use Rattle.clnp_plan.specs.SystemTables.declared.esis_tables.fact.Neighbour.{Neighbour}
 use Rattle.clnp_plan.specs.declared.ask.Ask.{Ask}
 use Rattle.clnp_plan.specs.declared.note.Note.{Note}
 use Rattle.clnp_machine.specs.Unit.{DataUnit, Packet, value_of}

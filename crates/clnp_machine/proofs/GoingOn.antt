@@ -9,13 +9,13 @@ use Rattle.std.proofs.lemmas.Option.{same_Some}
 use Rattle.clnp_plan.proofs.ClnpBase.Choices.{equal_is, is_equal, none_is}
 use Rattle.clnp_plan.proofs.ClnpBase.Lists.{AllByRecursion-append, AllByRecursion-map_any}
 use Rattle.clnp_plan.proofs.ClnpBase.SameOctets.{same-itself, same_from, same_from_equal}
-use Rattle.clnp_plan.specs.Nsap.declared.target.Target.TheVariants.{System}
+use Rattle.clnp_plan.specs.Pdus.declared.nsap.target.Target.TheVariants.{System}
 use Rattle.clnp_plan.specs.ClnpOptions.Edits.{advanced, edited, is_complete, pointer_of, recorded, route_left, target_of, value_of}
 use Rattle.clnp_plan.specs.ClnpOptions.Grammar.{AreFormed}
 use Rattle.clnp_plan.specs.ClnpOptions.Parameter.{Parameter, recording, source_route, spelled, spelling}
 use Rattle.clnp_plan.specs.PduHeader.Value.{SegmentationPart}
-use Rattle.clnp_plan.specs.EsisTables.declared.fact.Neighbour.{Neighbour}
-use Rattle.clnp_plan.specs.EsisTables.declared.fact.TableKind.TheVariants.{Es}
+use Rattle.clnp_plan.specs.SystemTables.declared.esis_tables.fact.Neighbour.{Neighbour}
+use Rattle.clnp_plan.specs.SystemTables.declared.esis_tables.fact.TableKind.TheVariants.{Es}
 use Rattle.clnp_plan.specs.EsisTables.NextHop.{current_neighbour}
 use Rattle.clnp_machine.specs.Unit.{Packet, IsCarriable, segmentation_of, value_of as pdu_of}
 use Rattle.clnp_machine.specs.Content.{Labelled}

@@ -3,16 +3,16 @@ use Rattle.std.proofs.Common.{sym, ◌≡◌, ◌∙◌, refl, ap, ℕ, ◌+◌,
 use Rattle.std.specs.Prelude.{◌==◌, ◌&&◌, ◌||◌, not, nat_le, min, slice_get, if◌then◌else◌}
 use Rattle.std.specs.List.{AllByRecursion, list_any, range_with_len}
 use Rattle.clnp_plan.proofs.ClnpBase.Lists.{AllByRecursion-append, AllByRecursion-map_any}
-use Rattle.esis_pdus.specs.declared.pdu.EsisBody.{EsisBody}
-use Rattle.esis_pdus.specs.declared.pdu.EsisBody.TheVariants as body
-use Rattle.esis_pdus.specs.declared.pdu.EsisBody.TheVariants.{Esh, Ish}
-use Rattle.esis_pdus.specs.Value.{EsisValue, suggested}
-use Rattle.clnp_plan.specs.EsisTables.declared.fact.Neighbour.{Neighbour}
-use Rattle.clnp_plan.specs.EsisTables.declared.fact.TableKind.{TableKind}
-use Rattle.clnp_plan.specs.EsisTables.declared.fact.TableKind.TheVariants.{Es, Is, Rd}
+use Rattle.pdus.specs.declared.esis_pdus.pdu.EsisBody.{EsisBody}
+use Rattle.pdus.specs.declared.esis_pdus.pdu.EsisBody.TheVariants as body
+use Rattle.pdus.specs.declared.esis_pdus.pdu.EsisBody.TheVariants.{Esh, Ish}
+use Rattle.pdus.specs.EsisPdus.Value.{EsisValue, suggested}
+use Rattle.clnp_plan.specs.SystemTables.declared.esis_tables.fact.Neighbour.{Neighbour}
+use Rattle.clnp_plan.specs.SystemTables.declared.esis_tables.fact.TableKind.{TableKind}
+use Rattle.clnp_plan.specs.SystemTables.declared.esis_tables.fact.TableKind.TheVariants.{Es, Is, Rd}
 use Rattle.clnp_plan.specs.EsisTables.Gone.{gone}
 use Rattle.clnp_plan.specs.EsisTables.NextHop.{is_router}
-use Rattle.esis_pdus.specs.Making.{timer_options, value}
+use Rattle.pdus.specs.EsisPdus.Making.{timer_options, value}
 use Rattle.clnp_plan.specs.Configuration.{SystemConfiguration}
 use Rattle.clnp_plan.specs.declared.config.Role.{Role}
 use Rattle.clnp_plan.specs.declared.config.Role.TheVariants.{Host, Router}

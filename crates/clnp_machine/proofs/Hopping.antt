@@ -3,8 +3,8 @@ use Rattle.std.proofs.Common.{◌≡◌, refl, ℕ, ◌+◌, inl, inr, Bool, Lis
 use Rattle.std.specs.Prelude.{slice_get}
 use Rattle.std.specs.List.{AllByRecursion, flat_map}
 use Rattle.clnp_plan.proofs.ClnpBase.Lists.{AllByRecursion-append, AllByRecursion-contains, AllByRecursion-implies, AllByRecursion-mapped}
-use Rattle.clnp_plan.specs.PduHeader.declared.kind.Kind.TheVariants.{Dt}
-use Rattle.clnp_plan.specs.EsisTables.declared.fact.Neighbour.{Neighbour}
+use Rattle.clnp_plan.specs.Pdus.declared.pdu_header.kind.Kind.TheVariants.{Dt}
+use Rattle.clnp_plan.specs.SystemTables.declared.esis_tables.fact.Neighbour.{Neighbour}
 use Rattle.clnp_plan.specs.declared.config.PortConfig.{PortConfig}
 use Rattle.clnp_machine.specs.Unit.{DataUnit, Packet, cut, whole_packet}
 use Rattle.clnp_machine.specs.Content.{Labelled, Esis, Unlabelled}

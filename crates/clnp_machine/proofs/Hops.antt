@@ -4,11 +4,11 @@ use Rattle.std.specs.Prelude.{◌==◌, ◌&&◌, ◌||◌, ◌↔◌, not, is_n
 use Rattle.std.specs.Option.{option_or}
 use Rattle.std.proofs.lemmas.Bool.{and_from, and_parts, eq-eqb, eqb-true, le-ltb, ltb-false, not-true, not_from_false}
 use Rattle.clnp_plan.proofs.ClnpBase.Choices.{option_or-none, option_or-some}
-use Rattle.clnp_plan.specs.Forwarding.declared.route.Route.{Route}
+use Rattle.clnp_plan.specs.SystemTables.declared.forwarding.route.Route.{Route}
 use Rattle.clnp_plan.specs.Forwarding.Longest.{longest}
 use Rattle.clnp_plan.specs.PduHeader.Spelling.{header_length}
-use Rattle.clnp_plan.specs.EsisTables.declared.fact.Neighbour.{Neighbour}
-use Rattle.clnp_plan.specs.EsisTables.declared.fact.TableKind.TheVariants.{Es, Rd}
+use Rattle.clnp_plan.specs.SystemTables.declared.esis_tables.fact.Neighbour.{Neighbour}
+use Rattle.clnp_plan.specs.SystemTables.declared.esis_tables.fact.TableKind.TheVariants.{Es, Rd}
 use Rattle.clnp_plan.specs.EsisTables.NextHop.{current_neighbour, last_router}
 use Rattle.clnp_plan.specs.declared.config.Role.{Role}
 use Rattle.clnp_plan.specs.declared.config.Role.TheVariants.{Host, Router}

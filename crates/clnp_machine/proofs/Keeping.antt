@@ -9,7 +9,7 @@ use Rattle.clnp_plan.specs.Nsap.Address.{IsAddress}
 use Rattle.clnp_plan.specs.Configuration.{IsAddressed, IsAddressedRoute, IsPort, IsSystem, IsWithin, SystemConfiguration}
 use Rattle.clnp_plan.specs.Forwarding.Distinct.{AreDistinct, has_prefix}
 use Rattle.clnp_plan.specs.Forwarding.Setting.{set_in, without}
-use Rattle.clnp_plan.specs.Forwarding.declared.route.Route.{Route}
+use Rattle.clnp_plan.specs.SystemTables.declared.forwarding.route.Route.{Route}
 use Rattle.clnp_plan.specs.declared.config.PortConfig.{PortConfig}
 use Rattle.clnp_machine.specs.Attachment.{Attachment, IsAttached, as_declared}
 use Rattle.clnp_machine.specs.Change.{Change, ChangesFairly, PortIsAt, PortTakes, RouteIsGone, RouteIsSet, changed, ports_taking, with_mtu}

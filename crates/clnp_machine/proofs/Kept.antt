@@ -6,12 +6,12 @@ use Rattle.std.specs.Prelude.{◌&&◌, is_none, nat_le, nat_lt}
 use Rattle.std.specs.List.{AllByRecursion, filter}
 use Rattle.std.proofs.lemmas.Bool.{cases_Bool}
 use Rattle.std.proofs.lemmas.List.Elements.{All-contains_itself, recursion_from_All}
-use Rattle.reassembly.specs.declared.table.TableLimits.{TableLimits}
-use Rattle.reassembly.specs.Arrival.{Arrival, are_covered, same_key}
-use Rattle.reassembly.specs.Buffer.{Answer, Buffer, Crowded, Held, Many, NoSlot, Repeat, Whole, after, answer, answer_of, buffer_of, clashes, due, held, is_whole_in, kept, kept_in, opened_by, refusal, sooner, soonest, with_kept, without}
+use Rattle.system_tables.specs.declared.reassembly.table.TableLimits.{TableLimits}
+use Rattle.system_tables.specs.Reassembly.Arrival.{Arrival, are_covered, same_key}
+use Rattle.system_tables.specs.Reassembly.Buffer.{Answer, Buffer, Crowded, Held, Many, NoSlot, Repeat, Whole, after, answer, answer_of, buffer_of, clashes, due, held, is_whole_in, kept, kept_in, opened_by, refusal, sooner, soonest, with_kept, without}
 use Rattle.clnp_machine.specs.Unit.{Packet}
 use Rattle.clnp_machine.specs.Told.{TellsNoInterference, WasThereOrTakes}
-use Rattle.reassembly.proofs.Shared.{held-with_kept, kept_or_not, may_be_kept, others_with_kept}
+use Rattle.system_tables.proofs.ReassemblyFacts.Shared.{held-with_kept, kept_or_not, may_be_kept, others_with_kept}
 use Rattle.clnp_plan.proofs.ClnpBase.Choices.{one_of}
 
 pub all_contained : {X : Type 0} (xs : List X) → AllByRecursion (Contains xs) xs

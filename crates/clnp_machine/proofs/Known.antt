@@ -4,12 +4,12 @@ use Rattle.std.specs.Prelude.{◌==◌, ◌||◌, nat_le, if◌then◌else◌}
 use Rattle.std.specs.List.{AllByRecursion, filter, list_any}
 use Rattle.std.proofs.lemmas.Bool.{cases_Bool, cond_both, lt-ltb, le-leb, leb-true, eqb-false}
 use Rattle.clnp_plan.proofs.ClnpBase.Lists.{AllByRecursion-implies}
-use Rattle.clnp_plan.specs.EsisTables.declared.fact.EsisLimits.{EsisLimits}
-use Rattle.clnp_plan.specs.EsisTables.declared.fact.Heard.{Heard}
-use Rattle.clnp_plan.specs.EsisTables.declared.fact.Heard.TheVariants.{New, Again, Zero, Full}
-use Rattle.clnp_plan.specs.EsisTables.declared.fact.Neighbour.{Neighbour}
-use Rattle.clnp_plan.specs.EsisTables.declared.fact.TableKind.{TableKind}
-use Rattle.clnp_plan.specs.EsisTables.declared.fact.TableKind.TheVariants.{Es}
+use Rattle.clnp_plan.specs.SystemTables.declared.esis_tables.fact.EsisLimits.{EsisLimits}
+use Rattle.clnp_plan.specs.SystemTables.declared.esis_tables.fact.Heard.{Heard}
+use Rattle.clnp_plan.specs.SystemTables.declared.esis_tables.fact.Heard.TheVariants.{New, Again, Zero, Full}
+use Rattle.clnp_plan.specs.SystemTables.declared.esis_tables.fact.Neighbour.{Neighbour}
+use Rattle.clnp_plan.specs.SystemTables.declared.esis_tables.fact.TableKind.{TableKind}
+use Rattle.clnp_plan.specs.SystemTables.declared.esis_tables.fact.TableKind.TheVariants.{Es}
 use Rattle.clnp_plan.specs.EsisTables.Fact.{Fact, after, answer, current, currents, end_of, has_key, hearing, is_held, is_noted, latest, limit_of, while_held}
 use Rattle.clnp_plan.specs.EsisTables.Keeps.{AreDistinct, without}
 use Rattle.clnp_plan.proofs.ClnpBase.SameOctets.{same_from, same-itself}

@@ -2,7 +2,7 @@
 use Rattle.std.proofs.Common.{◌≡◌, ℕ, ◌+◌, ◌≤◌, Bool, true, not, if◌then◌else◌, nat_lt, List, ◌++◌, length, Option, None, Some, option_map, refl, sym, ap, ◌∙◌, arith, length-append}
 use Rattle.std.proofs.lemmas.Bool.Decides.{nat_tests}
 use Rattle.clnp_plan.specs.ClnpOptions.Parameter.{Parameter, parameters, spelled}
-use Rattle.clnp_plan.specs.PduHeader.declared.kind.Kind.{Kind}
+use Rattle.clnp_plan.specs.Pdus.declared.pdu_header.kind.Kind.{Kind}
 use Rattle.clnp_plan.specs.PduHeader.Spelling.{counted, segmentation_octets}
 use Rattle.clnp_plan.specs.declared.ask.Ask.{Ask}
 use Rattle.clnp_plan.specs.declared.note.Note.{Note}

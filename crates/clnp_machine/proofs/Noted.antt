@@ -5,18 +5,18 @@ use Rattle.std.specs.Prelude.{◌==◌, if◌then◌else◌, not, nat_lt, slice_
 use Rattle.std.specs.List.{AllByRecursion, find, flat_map}
 use Rattle.clnp_plan.specs.ClnpOptions.Parameter.{Parameter}
 use Rattle.clnp_plan.specs.ClnpOptions.Reasons.{reason_code}
-use Rattle.clnp_plan.specs.ClnpOptions.declared.judge.OptionRefusal.{OptionRefusal}
-use Rattle.clnp_plan.specs.ClnpOptions.declared.reasons.Reason.TheVariants.{LifetimeExpiredInReassembly, NotSpecified}
-use Rattle.clnp_plan.specs.PduHeader.declared.kind.Kind.{Kind}
-use Rattle.clnp_plan.specs.PduHeader.declared.kind.Kind.TheVariants.{Dt, Er, Erq, Erp}
+use Rattle.clnp_plan.specs.Pdus.declared.clnp_options.judge.OptionRefusal.{OptionRefusal}
+use Rattle.clnp_plan.specs.Pdus.declared.clnp_options.reasons.Reason.TheVariants.{LifetimeExpiredInReassembly, NotSpecified}
+use Rattle.clnp_plan.specs.Pdus.declared.pdu_header.kind.Kind.{Kind}
+use Rattle.clnp_plan.specs.Pdus.declared.pdu_header.kind.Kind.TheVariants.{Dt, Er, Erq, Erp}
 use Rattle.clnp_plan.specs.PduHeader.Rules.{is_reportable, octet, refusal as rule_broken}
-use Rattle.reassembly.specs.Arrival.{Arrival}
-use Rattle.reassembly.specs.Buffer as buffer
-use Rattle.reassembly.specs.Buffer.{Answer, Buffer}
-use Rattle.esis_pdus.specs.declared.pdu.EsisRefusal.{EsisRefusal}
-use Rattle.esis_pdus.specs.declared.pdu.EsisRefusal.TheVariants.{NotEsis, Broken}
-use Rattle.esis_pdus.specs.Rules.{why_refused}
-use Rattle.clnp_plan.specs.EsisTables.declared.fact.Neighbour.{Neighbour}
+use Rattle.system_tables.specs.Reassembly.Arrival.{Arrival}
+use Rattle.system_tables.specs.Reassembly.Buffer as buffer
+use Rattle.system_tables.specs.Reassembly.Buffer.{Answer, Buffer}
+use Rattle.pdus.specs.declared.esis_pdus.pdu.EsisRefusal.{EsisRefusal}
+use Rattle.pdus.specs.declared.esis_pdus.pdu.EsisRefusal.TheVariants.{NotEsis, Broken}
+use Rattle.pdus.specs.EsisPdus.Rules.{why_refused}
+use Rattle.clnp_plan.specs.SystemTables.declared.esis_tables.fact.Neighbour.{Neighbour}
 use Rattle.clnp_plan.specs.declared.ask.Ask.{Ask}
 use Rattle.clnp_plan.specs.declared.config.PortConfig.{PortConfig}
 use Rattle.clnp_plan.specs.declared.note.Note.{Note}

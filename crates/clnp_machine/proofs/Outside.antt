@@ -5,19 +5,19 @@ use Rattle.std.proofs.lemmas.Bool.{and_parts, cases_Bool, eqb-true}
 use Rattle.std.proofs.lemmas.Bool.Decides.{nat_tests}
 use Rattle.std.proofs.lemmas.List.{take_all}
 use Rattle.hex.specs.Hex.{IsBytes}
-use Rattle.clnp_plan.specs.ClnpOptions.declared.judge.OptionRefusal.{OptionRefusal}
+use Rattle.clnp_plan.specs.Pdus.declared.clnp_options.judge.OptionRefusal.{OptionRefusal}
 use Rattle.clnp_plan.specs.PduHeader.Value.{SegmentationPart, PduValue}
 use Rattle.clnp_plan.specs.PduHeader.Spelling.{header_length, spelling}
 use Rattle.clnp_plan.specs.PduHeader.Grammar.{BeginsWith, IsPdu}
 use Rattle.clnp_plan.specs.PduHeader.Rules.{octet, refusal}
 use Rattle.clnp_plan.specs.PduHeader.Reading.{rest_of}
-use Rattle.esis_pdus.specs.declared.pdu.EsisRefusal.{EsisRefusal}
-use Rattle.esis_pdus.specs.Grammar as esis
-use Rattle.esis_pdus.specs.Reading as esis_reading
-use Rattle.esis_pdus.specs.Rules as esis_rules
-use Rattle.esis_pdus.specs.Rules.{why_refused}
-use Rattle.esis_pdus.specs.Value.{EsisValue}
-use Rattle.esis_pdus.proofs.Frames as esis_frames
+use Rattle.pdus.specs.declared.esis_pdus.pdu.EsisRefusal.{EsisRefusal}
+use Rattle.pdus.specs.EsisPdus.Grammar as esis
+use Rattle.pdus.specs.EsisPdus.Reading as esis_reading
+use Rattle.pdus.specs.EsisPdus.Rules as esis_rules
+use Rattle.pdus.specs.EsisPdus.Rules.{why_refused}
+use Rattle.pdus.specs.EsisPdus.Value.{EsisValue}
+use Rattle.pdus.proofs.EsisPdus.Frames as esis_frames
 use Rattle.clnp_machine.specs.Unit.{IsCarriable, value_of}
 use Rattle.clnp_machine.specs.Content.{Content, Labelled, Esis, Unlabelled, IsCarried, content_of, esis_value_in, frame_of, is_accepted, packet_from_outside, value_in}
 use Rattle.clnp_machine.proofs.Pieces.{with_parts}

@@ -4,15 +4,15 @@ use Rattle.std.proofs.Common.{◌≡◌, refl, ℕ, ◌<◌, Bool, true, false, 
 use Rattle.std.proofs.lemmas.Bool.Decides.{nat_tests}
 use Rattle.std.specs.Prelude.{◌==◌, ◌&&◌, not, nat_le, is_none, slice_get, if◌then◌else◌}
 use Rattle.std.specs.List.{AllByRecursion}
-use Rattle.clnp_plan.specs.EsisTables.declared.fact.Neighbour.{Neighbour}
-use Rattle.clnp_plan.specs.Nsap.declared.target.Target.TheVariants.{System}
+use Rattle.clnp_plan.specs.SystemTables.declared.esis_tables.fact.Neighbour.{Neighbour}
+use Rattle.clnp_plan.specs.Pdus.declared.nsap.target.Target.TheVariants.{System}
 use Rattle.clnp_plan.specs.declared.config.PortConfig.{PortConfig}
 use Rattle.clnp_plan.specs.declared.config.Role.{Role}
 use Rattle.clnp_plan.specs.declared.config.Role.TheVariants.{Host, Router}
 use Rattle.clnp_plan.specs.declared.note.Note.TheVariants.{NotMine}
 use Rattle.clnp_plan.specs.ClnpOptions.Edits.{is_complete, target_of}
 use Rattle.clnp_plan.specs.ClnpOptions.Parameter.{Parameter}
-use Rattle.clnp_plan.specs.EsisTables.declared.fact.TableKind.TheVariants.{Es}
+use Rattle.clnp_plan.specs.SystemTables.declared.esis_tables.fact.TableKind.TheVariants.{Es}
 use Rattle.clnp_plan.specs.EsisTables.NextHop.{current_neighbour}
 use Rattle.clnp_machine.specs.Unit.{Packet, cut, segmentation_of}
 use Rattle.clnp_machine.specs.System.{SystemState, Effect, Output, SendsEsis, gives}

@@ -7,13 +7,13 @@ use Rattle.clnp_plan.specs.ClnpOptions.Parameter.{spelled}
 use Rattle.clnp_plan.specs.PduHeader.Value.{SegmentationPart, PduValue}
 use Rattle.clnp_plan.specs.PduHeader.Spelling.{header, header_length, segment_length, segmentation_octets}
 use Rattle.clnp_plan.specs.PduHeader.Grammar.{IsPdu}
-use Rattle.made_pdus.specs.Range.{Range}
-use Rattle.made_pdus.specs.Cut as segmenter
-use Rattle.made_pdus.specs.Cut.{Piece, data_room, ranges, segment, segments, uncut}
-use Rattle.made_pdus.proofs.Claims.{segments_tile}
+use Rattle.pdus.specs.MadePdus.Range.{Range}
+use Rattle.pdus.specs.MadePdus.Cut as segmenter
+use Rattle.pdus.specs.MadePdus.Cut.{Piece, data_room, ranges, segment, segments, uncut}
+use Rattle.pdus.proofs.MadePdus.Claims.{segments_tile}
 use Rattle.clnp_plan.proofs.ClnpBase.Lists.{length_part, part_of_part}
-use Rattle.made_pdus.proofs.Segments.{segment_is_pdu}
-use Rattle.made_pdus.proofs.Tiles.{tiles_within}
+use Rattle.pdus.proofs.MadePdus.Segments.{segment_is_pdu}
+use Rattle.pdus.proofs.MadePdus.Tiles.{tiles_within}
 use Rattle.clnp_machine.specs.EveryStep.{AreCarriable}
 use Rattle.clnp_machine.specs.Unit.{IsCarriable, Packet, cut, more_follows, piece_of, pieces, segmentation_of, value_of, value_with, wire}
 use Rattle.clnp_machine.proofs.Headers.{header_length-is, length-header}

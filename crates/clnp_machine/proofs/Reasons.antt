@@ -1,7 +1,7 @@
 -- Reasons for discard that no rule of PDUs gives.
 use Rattle.std.proofs.Common.{◌≡◌, ◌==◌, ℕ, false, refl}
 use Rattle.std.proofs.lemmas.Bool.{eqb-false}
-use Rattle.clnp_plan.specs.ClnpOptions.declared.reasons.Reason.TheVariants.{Congestion, DestinationUnknown, LifetimeExpiredInReassembly, LifetimeExpiredInTransit, PathNotAcceptable, ReassemblyInterference, SegmentationNotPermitted, UnknownAddressInRoute}
+use Rattle.clnp_plan.specs.Pdus.declared.clnp_options.reasons.Reason.TheVariants.{Congestion, DestinationUnknown, LifetimeExpiredInReassembly, LifetimeExpiredInTransit, PathNotAcceptable, ReassemblyInterference, SegmentationNotPermitted, UnknownAddressInRoute}
 use Rattle.clnp_plan.specs.ClnpOptions.Reasons.{reason_code}
 use Rattle.clnp_plan.specs.PduHeader.Table.{table}
 use Rattle.clnp_machine.specs.Told.{IsOfNoRule}

@@ -6,17 +6,17 @@ use Rattle.std.specs.Prelude.{◌==◌, option_map}
 use Rattle.std.specs.List.{AllByRecursion}
 use Rattle.std.proofs.lemmas.List.{get_or_append_left, take_all, take_at}
 use Rattle.clnp_plan.specs.ClnpOptions.Parameter.{parameters_after}
-use Rattle.clnp_plan.specs.PduHeader.declared.kind.Kind.{Kind}
-use Rattle.clnp_plan.specs.PduHeader.declared.kind.Kind.TheVariants.{Dt, Er, Erq, Erp}
+use Rattle.clnp_plan.specs.Pdus.declared.pdu_header.kind.Kind.{Kind}
+use Rattle.clnp_plan.specs.Pdus.declared.pdu_header.kind.Kind.TheVariants.{Dt, Er, Erq, Erp}
 use Rattle.clnp_plan.specs.PduHeader.Grammar.{BeginsWith, IsPdu, is_report}
 use Rattle.clnp_plan.specs.PduHeader.Reading.{address_at}
 use Rattle.clnp_plan.specs.PduHeader.Rules.{header_of, header_size as size_of_header, source_place}
 use Rattle.clnp_plan.specs.PduHeader.Spelling.{header, segmentation_octets, type_code}
 use Rattle.clnp_plan.specs.PduHeader.Value.{PduValue, SegmentationPart}
-use Rattle.made_pdus.specs.Report.{source_of}
-use Rattle.made_pdus.specs.Reply.{part_of, plain_length, reply_of}
-use Rattle.made_pdus.proofs.ReplyLengths.{head_is}
-use Rattle.reassembly.specs.Arrival.{Arrival}
+use Rattle.pdus.specs.MadePdus.Report.{source_of}
+use Rattle.pdus.specs.MadePdus.Reply.{part_of, plain_length, reply_of}
+use Rattle.pdus.proofs.MadePdus.ReplyLengths.{head_is}
+use Rattle.system_tables.specs.Reassembly.Arrival.{Arrival}
 use Rattle.clnp_machine.specs.Unit.{DataUnit, IsCarriable, Packet, more_follows, segmentation_of, value_of, whole_packet, wire}
 use Rattle.clnp_machine.specs.Content.{Labelled, Esis, Unlabelled}
 use Rattle.clnp_machine.specs.System.{SystemState, Input, AsksToSend, AsksForEcho, FrameComes, MomentComes, IsRestarted, IsCongested, IsChanged}

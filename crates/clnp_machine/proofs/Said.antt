@@ -8,22 +8,22 @@ use Rattle.clnp_plan.proofs.ClnpBase.Lists.{AllByRecursion-append, AllByRecursio
 use Rattle.clnp_plan.specs.Nsap.Address.{IsAddress}
 use Rattle.clnp_plan.specs.ClnpOptions.Edits.{target_of}
 use Rattle.clnp_plan.specs.ClnpOptions.Grammar.{joined}
-use Rattle.esis_pdus.specs.declared.pdu.EsisBody.{EsisBody}
-use Rattle.esis_pdus.specs.declared.pdu.EsisBody.TheVariants as body
-use Rattle.esis_pdus.specs.declared.pdu.EsisBody.TheVariants.{Esh, Ish}
-use Rattle.esis_pdus.specs.Grammar.{HasAddresses, IsPdu, IsTitleOrNone}
-use Rattle.esis_pdus.specs.Value.{EsisValue, suggested}
-use Rattle.esis_pdus.proofs.Made.{esh_pdu, esh_size, ish_pdu, rd_pdu}
-use Rattle.clnp_plan.specs.Forwarding.declared.route.Route.{Route}
+use Rattle.pdus.specs.declared.esis_pdus.pdu.EsisBody.{EsisBody}
+use Rattle.pdus.specs.declared.esis_pdus.pdu.EsisBody.TheVariants as body
+use Rattle.pdus.specs.declared.esis_pdus.pdu.EsisBody.TheVariants.{Esh, Ish}
+use Rattle.pdus.specs.EsisPdus.Grammar.{HasAddresses, IsPdu, IsTitleOrNone}
+use Rattle.pdus.specs.EsisPdus.Value.{EsisValue, suggested}
+use Rattle.pdus.proofs.EsisPdus.Made.{esh_pdu, esh_size, ish_pdu, rd_pdu}
+use Rattle.clnp_plan.specs.SystemTables.declared.forwarding.route.Route.{Route}
 use Rattle.clnp_plan.specs.Forwarding.Longest.{IsLongest, longest}
-use Rattle.clnp_plan.specs.EsisTables.declared.fact.Neighbour.{Neighbour}
-use Rattle.clnp_plan.specs.EsisTables.declared.fact.TableKind.{TableKind}
-use Rattle.clnp_plan.specs.EsisTables.declared.fact.TableKind.TheVariants.{Es, Is, Rd}
+use Rattle.clnp_plan.specs.SystemTables.declared.esis_tables.fact.Neighbour.{Neighbour}
+use Rattle.clnp_plan.specs.SystemTables.declared.esis_tables.fact.TableKind.{TableKind}
+use Rattle.clnp_plan.specs.SystemTables.declared.esis_tables.fact.TableKind.TheVariants.{Es, Is, Rd}
 use Rattle.clnp_plan.specs.EsisTables.Fact.{Fact, answer, is_about, is_held, is_noted, last_of, while_held}
 use Rattle.clnp_plan.specs.EsisTables.Gone.{gone}
 use Rattle.clnp_plan.specs.EsisTables.NextHop.{current_neighbour, is_router, neighbour_of}
-use Rattle.clnp_plan.specs.Nsap.declared.target.Target.TheVariants.{System}
-use Rattle.clnp_plan.specs.PduHeader.declared.kind.Kind.TheVariants.{Dt, Erq}
+use Rattle.clnp_plan.specs.Pdus.declared.nsap.target.Target.TheVariants.{System}
+use Rattle.clnp_plan.specs.Pdus.declared.pdu_header.kind.Kind.TheVariants.{Dt, Erq}
 use Rattle.clnp_plan.specs.Configuration.{HasItsAddresses, IsAddressedRoute, IsSystem, SystemConfiguration}
 use Rattle.clnp_plan.specs.declared.note.Note.TheVariants.{Ignored}
 use Rattle.clnp_plan.specs.declared.config.Role.{Role}

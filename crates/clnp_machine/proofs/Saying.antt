@@ -4,10 +4,10 @@ use Rattle.std.specs.Prelude.{◌==◌, ◌&&◌, not, nat_le, if◌then◌else�
 use Rattle.std.specs.List.{AllByRecursion, filter, flat_map, range_with_len}
 use Rattle.std.proofs.lemmas.Bool.{and_from, and_parts, cond-false, cond-true, eqb-false, false_from_ne_true, le-leb, leb-true, ne_eqb, not-true, not_from_false}
 use Rattle.clnp_plan.proofs.ClnpBase.Lists.{AllByRecursion-map_any}
-use Rattle.esis_pdus.specs.Value.{EsisValue}
+use Rattle.pdus.specs.EsisPdus.Value.{EsisValue}
 use Rattle.clnp_plan.specs.EsisTables.Gone.{gone}
-use Rattle.clnp_plan.specs.Nsap.declared.target.Target.TheVariants.{System}
-use Rattle.clnp_plan.specs.EsisTables.declared.fact.Neighbour.{Neighbour}
+use Rattle.clnp_plan.specs.Pdus.declared.nsap.target.Target.TheVariants.{System}
+use Rattle.clnp_plan.specs.SystemTables.declared.esis_tables.fact.Neighbour.{Neighbour}
 use Rattle.clnp_plan.specs.Configuration.{SystemConfiguration}
 use Rattle.clnp_plan.specs.declared.config.Role.{Role}
 use Rattle.clnp_plan.specs.declared.config.Role.TheVariants.{Host, Router}

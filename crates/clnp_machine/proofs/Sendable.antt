@@ -11,19 +11,19 @@ use Rattle.clnp_plan.specs.Nsap.Address.{IsAddress}
 use Rattle.clnp_plan.specs.ClnpOptions.Grammar.{AreFormed, FitsKind, HasForm}
 use Rattle.clnp_plan.specs.ClnpOptions.Parameter.{parameters, parameters_after}
 use Rattle.clnp_plan.specs.ClnpOptions.Reasons.{reason_code}
-use Rattle.clnp_plan.specs.ClnpOptions.declared.reasons.Reason.TheVariants.{LifetimeExpiredInReassembly}
+use Rattle.clnp_plan.specs.Pdus.declared.clnp_options.reasons.Reason.TheVariants.{LifetimeExpiredInReassembly}
 use Rattle.clnp_plan.proofs.ClnpOptions.Agree.{are_formed, none_fit}
-use Rattle.clnp_plan.specs.PduHeader.declared.kind.Kind.{Kind}
-use Rattle.clnp_plan.specs.PduHeader.declared.kind.Kind.TheVariants.{Dt, Er, Erq, Erp}
+use Rattle.clnp_plan.specs.Pdus.declared.pdu_header.kind.Kind.{Kind}
+use Rattle.clnp_plan.specs.Pdus.declared.pdu_header.kind.Kind.TheVariants.{Dt, Er, Erq, Erp}
 use Rattle.clnp_plan.specs.PduHeader.Grammar.{IsSegment, is_report}
 use Rattle.clnp_plan.specs.PduHeader.Rules.{extent_refusal, header_of, header_size as size_of_header, is_bad_address, is_reportable, octet, source_place, type_of, wants_report}
 use Rattle.clnp_plan.proofs.PduHeader.Accepted.{within}
 use Rattle.clnp_plan.proofs.PduHeader.Spelled.{address_is}
-use Rattle.made_pdus.specs.Report.{reason_option, source_of}
-use Rattle.made_pdus.proofs.Lengths.{four}
-use Rattle.made_pdus.proofs.Reason.{alone, alone_fits}
-use Rattle.reassembly.specs.Arrival.{Arrival}
-use Rattle.clnp_plan.specs.EsisTables.declared.fact.Neighbour.{Neighbour}
+use Rattle.pdus.specs.MadePdus.Report.{reason_option, source_of}
+use Rattle.pdus.proofs.MadePdus.Lengths.{four}
+use Rattle.pdus.proofs.MadePdus.Reason.{alone, alone_fits}
+use Rattle.system_tables.specs.Reassembly.Arrival.{Arrival}
+use Rattle.clnp_plan.specs.SystemTables.declared.esis_tables.fact.Neighbour.{Neighbour}
 use Rattle.clnp_plan.specs.Asking.{IsFormedAsk}
 use Rattle.clnp_plan.specs.Configuration.{HasItsAddresses, IsPort, IsSystem, SystemConfiguration}
 use Rattle.clnp_plan.specs.declared.config.Role.{Role}

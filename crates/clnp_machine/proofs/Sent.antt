@@ -4,12 +4,12 @@ use Rattle.std.proofs.Common.{◌≡◌, ◌∙◌, ap, sym, inl, inr, ℕ, zero
 use Rattle.std.specs.List.{AllByRecursion, flat_map, range_with_len}
 use Rattle.std.proofs.lemmas.List.Elements.{Contains-append_left, Contains-append_right}
 use Rattle.std.specs.Prelude.{slice_get}
-use Rattle.clnp_plan.specs.EsisTables.declared.fact.Neighbour.{Neighbour}
-use Rattle.clnp_plan.specs.PduHeader.declared.kind.Kind.TheVariants.{Dt}
+use Rattle.clnp_plan.specs.SystemTables.declared.esis_tables.fact.Neighbour.{Neighbour}
+use Rattle.clnp_plan.specs.Pdus.declared.pdu_header.kind.Kind.TheVariants.{Dt}
 use Rattle.clnp_plan.specs.PduHeader.Spelling.{header_length}
 use Rattle.clnp_plan.specs.declared.config.PortConfig.{PortConfig}
-use Rattle.made_pdus.specs.Range.{Range}
-use Rattle.made_pdus.specs.Cut.{data_room, nth_range, ranges}
+use Rattle.pdus.specs.MadePdus.Range.{Range}
+use Rattle.pdus.specs.MadePdus.Cut.{data_room, nth_range, ranges}
 use Rattle.clnp_plan.specs.ClnpOptions.Edits.{HaveOneForm}
 use Rattle.clnp_plan.specs.ClnpOptions.Parameter.{Parameter}
 use Rattle.clnp_machine.specs.Unit.{DataUnit, Packet, value_of, wire, whole_packet, piece_of, pieces, cut}

@@ -1,9 +1,9 @@
 -- A frame that carries a packet or an ES-IS value that a PDU can carry breaks no rule.
 use Rattle.std.proofs.Common.{refl, ℕ, List, ◌++◌}
-use Rattle.esis_pdus.specs.Grammar as esis
-use Rattle.esis_pdus.specs.Spelling.{spelling}
-use Rattle.esis_pdus.specs.Value.{EsisValue}
-use Rattle.esis_pdus.proofs.Frames as esis_frames
+use Rattle.pdus.specs.EsisPdus.Grammar as esis
+use Rattle.pdus.specs.EsisPdus.Spelling.{spelling}
+use Rattle.pdus.specs.EsisPdus.Value.{EsisValue}
+use Rattle.pdus.proofs.EsisPdus.Frames as esis_frames
 use Rattle.clnp_machine.specs.Unit.{Packet, IsCarriable, value_of, wire}
 use Rattle.clnp_machine.specs.EveryStep.{BreaksNoEsisRule, BreaksNoRule}
 use Rattle.clnp_machine.proofs.Headers.{is_front}

@@ -4,12 +4,12 @@ use Rattle.std.specs.Prelude.{if◌then◌else◌, slice_get}
 use Rattle.std.proofs.lemmas.Bool.{cases_Bool}
 use Rattle.clnp_plan.proofs.ClnpBase.Choices.{one_of}
 use Rattle.clnp_plan.specs.ClnpOptions.Parameter.{Parameter}
-use Rattle.clnp_plan.specs.PduHeader.declared.kind.Kind.{Kind}
-use Rattle.clnp_plan.specs.PduHeader.declared.kind.Kind.TheVariants.{Dt, Er, Erq, Erp}
+use Rattle.clnp_plan.specs.Pdus.declared.pdu_header.kind.Kind.{Kind}
+use Rattle.clnp_plan.specs.Pdus.declared.pdu_header.kind.Kind.TheVariants.{Dt, Er, Erq, Erp}
 use Rattle.clnp_plan.specs.PduHeader.Rules.{is_reportable}
-use Rattle.reassembly.specs.Buffer as buffer
-use Rattle.reassembly.specs.Buffer.{Answer, Buffer}
-use Rattle.clnp_plan.specs.EsisTables.declared.fact.Neighbour.{Neighbour}
+use Rattle.system_tables.specs.Reassembly.Buffer as buffer
+use Rattle.system_tables.specs.Reassembly.Buffer.{Answer, Buffer}
+use Rattle.clnp_plan.specs.SystemTables.declared.esis_tables.fact.Neighbour.{Neighbour}
 use Rattle.clnp_plan.specs.declared.note.Note.{Note}
 use Rattle.clnp_machine.specs.Unit.{DataUnit, Packet, value_of}
 use Rattle.clnp_machine.specs.Content.{Content, Esis, Labelled, Unlabelled, frame_of}

@@ -4,7 +4,7 @@ use Rattle.std.specs.List.{AllByRecursion}
 use Rattle.clnp_plan.specs.Nsap.Address.{IsAddress}
 use Rattle.clnp_plan.specs.Configuration.{IsAddressedRoute, IsPort, SystemConfiguration}
 use Rattle.clnp_plan.specs.Forwarding.Distinct as prefixes
-use Rattle.clnp_plan.specs.Forwarding.declared.route.Route.{Route}
+use Rattle.clnp_plan.specs.SystemTables.declared.forwarding.route.Route.{Route}
 use Rattle.clnp_plan.specs.declared.config.PortConfig.{PortConfig}
 
 pub record Attachment : Type 0 where

@@ -3,7 +3,7 @@ use Rattle.std.specs.Prelude.{ℕ, ◌<◌, List, length, slice_get, slice_set, 
 use Rattle.clnp_plan.specs.Nsap.Address.{IsAddress}
 use Rattle.clnp_plan.specs.Configuration.{IsAddressedRoute, IsPort, IsWithin}
 use Rattle.clnp_plan.specs.Forwarding.Setting.{set_in, without}
-use Rattle.clnp_plan.specs.Forwarding.declared.route.Route.{Route}
+use Rattle.clnp_plan.specs.SystemTables.declared.forwarding.route.Route.{Route}
 use Rattle.clnp_plan.specs.declared.config.PortConfig.{PortConfig}
 use Rattle.clnp_machine.specs.Attachment.{Attachment}
 

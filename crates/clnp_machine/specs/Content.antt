@@ -6,11 +6,11 @@ use Rattle.clnp_plan.specs.PduHeader.Spelling.{segment_length}
 use Rattle.clnp_plan.specs.PduHeader.Grammar.{BeginsWith}
 use Rattle.clnp_plan.specs.PduHeader.Rules.{octet, header_of, refusal}
 use Rattle.clnp_plan.specs.PduHeader.Reading.{value_of, body_of, rest_of}
-use Rattle.esis_pdus.specs.Grammar as esis
-use Rattle.esis_pdus.specs.Reading as esis_reading
-use Rattle.esis_pdus.specs.Rules.{why_refused}
-use Rattle.esis_pdus.specs.Spelling as esis_spelling
-use Rattle.esis_pdus.specs.Value.{EsisValue}
+use Rattle.pdus.specs.EsisPdus.Grammar as esis
+use Rattle.pdus.specs.EsisPdus.Reading as esis_reading
+use Rattle.pdus.specs.EsisPdus.Rules.{why_refused}
+use Rattle.pdus.specs.EsisPdus.Spelling as esis_spelling
+use Rattle.pdus.specs.EsisPdus.Value.{EsisValue}
 use Rattle.clnp_machine.specs.Unit.{Outside, DataUnit, Packet, wire, IsCarriable}
 
 -- A packet, or the value of an ES-IS PDU, and the octets that follow its PDU in the frame; or octets that spell no PDU.

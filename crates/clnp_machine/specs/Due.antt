@@ -2,10 +2,10 @@
 -- restart leaves.
 use Rattle.std.specs.Prelude.{◌≡◌, ◌≢◌, ℕ, ◌+◌, ◌*◌, ◌≤◌, ◌⊎◌, min, Some, Bool, true, List}
 use Rattle.std.specs.List.{Contains}
-use Rattle.reassembly.specs.Arrival.{same_key}
-use Rattle.reassembly.specs.Buffer.{Buffer}
-use Rattle.esis_pdus.specs.declared.pdu.EsisBody.TheVariants.{Ish}
-use Rattle.esis_pdus.specs.Value.{EsisValue, suggested}
+use Rattle.system_tables.specs.Reassembly.Arrival.{same_key}
+use Rattle.system_tables.specs.Reassembly.Buffer.{Buffer}
+use Rattle.pdus.specs.declared.esis_pdus.pdu.EsisBody.TheVariants.{Ish}
+use Rattle.pdus.specs.EsisPdus.Value.{EsisValue, suggested}
 use Rattle.clnp_plan.specs.declared.config.Limits.{Limits}
 use Rattle.clnp_plan.specs.declared.config.Role.TheVariants.{Host}
 use Rattle.clnp_machine.specs.Unit.{Packet}

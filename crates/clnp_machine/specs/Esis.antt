@@ -1,19 +1,19 @@
 -- What a system says of itself, and hears of others (ISO 9542, section 6).
 use Rattle.std.specs.Prelude.{ℕ, ◌+◌, ◌*◌, ◌==◌, ◌&&◌, ◌||◌, min, nat_le, not, Bool, true, false, if◌then◌else◌, List, [], ◌∷◌, length, map, slice_get, Option, None, Some}
 use Rattle.std.specs.List.{list_any, range_with_len}
-use Rattle.clnp_plan.specs.Nsap.declared.target.Target.{Target}
-use Rattle.clnp_plan.specs.Nsap.declared.target.Target.TheVariants.{System, EndSystems, Routers}
-use Rattle.esis_pdus.specs.declared.pdu.EsisBody.{EsisBody}
-use Rattle.esis_pdus.specs.declared.pdu.EsisBody.TheVariants as body
-use Rattle.esis_pdus.specs.declared.pdu.EsisBody.TheVariants.{Esh, Ish}
-use Rattle.esis_pdus.specs.Making.{value, timer_options}
-use Rattle.esis_pdus.specs.Value.{EsisValue, suggested}
-use Rattle.clnp_plan.specs.EsisTables.declared.fact.EsisLimits.{EsisLimits}
-use Rattle.clnp_plan.specs.EsisTables.declared.fact.Gone.{Gone}
-use Rattle.clnp_plan.specs.EsisTables.declared.fact.Heard.TheVariants.{New}
-use Rattle.clnp_plan.specs.EsisTables.declared.fact.Neighbour.{Neighbour}
-use Rattle.clnp_plan.specs.EsisTables.declared.fact.TableKind.{TableKind}
-use Rattle.clnp_plan.specs.EsisTables.declared.fact.TableKind.TheVariants.{Es, Is, Rd}
+use Rattle.clnp_plan.specs.Pdus.declared.nsap.target.Target.{Target}
+use Rattle.clnp_plan.specs.Pdus.declared.nsap.target.Target.TheVariants.{System, EndSystems, Routers}
+use Rattle.pdus.specs.declared.esis_pdus.pdu.EsisBody.{EsisBody}
+use Rattle.pdus.specs.declared.esis_pdus.pdu.EsisBody.TheVariants as body
+use Rattle.pdus.specs.declared.esis_pdus.pdu.EsisBody.TheVariants.{Esh, Ish}
+use Rattle.pdus.specs.EsisPdus.Making.{value, timer_options}
+use Rattle.pdus.specs.EsisPdus.Value.{EsisValue, suggested}
+use Rattle.clnp_plan.specs.SystemTables.declared.esis_tables.fact.EsisLimits.{EsisLimits}
+use Rattle.clnp_plan.specs.SystemTables.declared.esis_tables.fact.Gone.{Gone}
+use Rattle.clnp_plan.specs.SystemTables.declared.esis_tables.fact.Heard.TheVariants.{New}
+use Rattle.clnp_plan.specs.SystemTables.declared.esis_tables.fact.Neighbour.{Neighbour}
+use Rattle.clnp_plan.specs.SystemTables.declared.esis_tables.fact.TableKind.{TableKind}
+use Rattle.clnp_plan.specs.SystemTables.declared.esis_tables.fact.TableKind.TheVariants.{Es, Is, Rd}
 use Rattle.clnp_plan.specs.EsisTables.Fact as facts
 use Rattle.clnp_plan.specs.EsisTables.Gone.{gone}
 use Rattle.clnp_plan.specs.EsisTables.NextHop.{is_router}

@@ -5,23 +5,23 @@ use Rattle.clnp_plan.specs.ClnpOptions.Edits.{HaveOneForm}
 use Rattle.clnp_plan.specs.ClnpOptions.Grammar.{FitsKind}
 use Rattle.clnp_plan.specs.ClnpOptions.Parameter.{parameters}
 use Rattle.clnp_plan.specs.PduHeader.Grammar.{BeginsWith}
-use Rattle.clnp_plan.specs.PduHeader.declared.kind.Kind.TheVariants.{Dt, Er, Erq, Erp}
+use Rattle.clnp_plan.specs.Pdus.declared.pdu_header.kind.Kind.TheVariants.{Dt, Er, Erq, Erp}
 use Rattle.clnp_plan.specs.PduHeader.Rules.{header_of, octet, refusal}
-use Rattle.made_pdus.specs.Report.{source_of}
+use Rattle.pdus.specs.MadePdus.Report.{source_of}
 use Rattle.clnp_plan.specs.PduHeader.Value.{PduValue}
-use Rattle.esis_pdus.specs.Grammar as esis
-use Rattle.esis_pdus.specs.Rules as esis_rules
-use Rattle.esis_pdus.specs.Grammar.{IsPdu}
-use Rattle.esis_pdus.specs.Spelling.{spelling}
-use Rattle.esis_pdus.specs.Value.{EsisValue}
-use Rattle.esis_pdus.specs.declared.pdu.EsisBody.TheVariants.{Rd}
-use Rattle.clnp_plan.specs.EsisTables.declared.fact.Neighbour.{Neighbour}
+use Rattle.pdus.specs.EsisPdus.Grammar as esis
+use Rattle.pdus.specs.EsisPdus.Rules as esis_rules
+use Rattle.pdus.specs.EsisPdus.Grammar.{IsPdu}
+use Rattle.pdus.specs.EsisPdus.Spelling.{spelling}
+use Rattle.pdus.specs.EsisPdus.Value.{EsisValue}
+use Rattle.pdus.specs.declared.esis_pdus.pdu.EsisBody.TheVariants.{Rd}
+use Rattle.clnp_plan.specs.SystemTables.declared.esis_tables.fact.Neighbour.{Neighbour}
 use Rattle.clnp_plan.specs.EsisTables.Fact.{Fact}
 use Rattle.clnp_plan.specs.declared.config.Role.TheVariants.{Router}
 use Rattle.clnp_plan.specs.Nsap.Address.{IsAddress}
-use Rattle.clnp_plan.specs.Nsap.declared.target.Target.TheVariants.{System}
-use Rattle.reassembly.specs.Arrival.{Arrival}
-use Rattle.reassembly.specs.Buffer.{Buffer, held}
+use Rattle.clnp_plan.specs.Pdus.declared.nsap.target.Target.TheVariants.{System}
+use Rattle.system_tables.specs.Reassembly.Arrival.{Arrival}
+use Rattle.system_tables.specs.Reassembly.Buffer.{Buffer, held}
 use Rattle.clnp_plan.specs.Asking.{IsFormedAsk}
 use Rattle.clnp_plan.specs.declared.config.PortConfig.{PortConfig}
 use Rattle.clnp_plan.specs.declared.note.Note.{Note}

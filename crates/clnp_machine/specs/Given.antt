@@ -1,10 +1,10 @@
 -- The outputs of a system of the code, and those of the model.
 use Rattle.std.specs.Prelude.{◌≡◌, ◌⊎◌, ℕ, true, false, List, ◌++◌, Option, None, Some}
 use Rattle.std.specs.List.{AllZip}
-use Rattle.clnp_plan.specs.Nsap.declared.target.Target.{Target}
-use Rattle.esis_pdus.specs.Grammar as esis
-use Rattle.esis_pdus.specs.Spelling as esis_spelling
-use Rattle.esis_pdus.specs.Value.{EsisValue}
+use Rattle.clnp_plan.specs.Pdus.declared.nsap.target.Target.{Target}
+use Rattle.pdus.specs.EsisPdus.Grammar as esis
+use Rattle.pdus.specs.EsisPdus.Spelling as esis_spelling
+use Rattle.pdus.specs.EsisPdus.Value.{EsisValue}
 use Rattle.clnp_plan.specs.declared.output.Output.{Output}
 use Rattle.clnp_plan.specs.declared.output.Output.TheVariants.{Transmit, Note}
 use Rattle.clnp_plan.specs.declared.output.Sending.{Sending}

@@ -1,15 +1,18 @@
 pub use Rattle.clnp_plan.specs.ClnpBase
-pub use Rattle.clnp_plan.specs.Fletcher
-pub use Rattle.clnp_plan.specs.Nsap
+pub use Rattle.clnp_plan.specs.Pdus
 pub use Rattle.clnp_plan.specs.ClnpOptions
 pub use Rattle.clnp_plan.specs.ClnpViews
+pub use Rattle.pdus.specs.EsisPdus
+pub use Rattle.clnp_plan.specs.Fletcher
+pub use Rattle.pdus.specs.MadePdus
+pub use Rattle.clnp_plan.specs.Nsap
 pub use Rattle.clnp_plan.specs.PduHeader
-pub use Rattle.reassembly.specs as Reassembly
+pub use Rattle.clnp_plan.specs.SystemTables
 pub use Rattle.clnp_plan.specs.EsisTables
 pub use Rattle.clnp_plan.specs.Forwarding
-pub use Rattle.esis_pdus.specs as EsisPdus
-pub use Rattle.made_pdus.specs as MadePdus
+pub use Rattle.system_tables.specs.Reassembly
 pub use Rattle.clnp_plan.specs as ClnpPlan
+pub use Rattle.clnp_plan.specs.ScenarioPlan
 pub mod Unit
 pub mod Identifiers
 pub mod Content
@@ -28,3 +31,5 @@ pub mod Ways
 pub mod Due
 pub mod Requests
 pub mod Edited
+pub mod ClnpNetwork
+pub mod LiveModel

@@ -4,18 +4,18 @@ use Rattle.std.specs.List.{find, list_any}
 use Rattle.std.specs.Str.{bytes_eq}
 use Rattle.clnp_plan.specs.ClnpOptions.Parameter.{Parameter, parameters}
 use Rattle.clnp_plan.specs.ClnpOptions.Reasons.{reason_code}
-use Rattle.clnp_plan.specs.ClnpOptions.declared.reasons.Reason.TheVariants.{Congestion, LifetimeExpiredInReassembly, ReassemblyInterference}
-use Rattle.clnp_plan.specs.PduHeader.declared.kind.Kind.{Kind}
-use Rattle.clnp_plan.specs.PduHeader.declared.kind.Kind.TheVariants.{Dt, Er, Erq, Erp}
+use Rattle.clnp_plan.specs.Pdus.declared.clnp_options.reasons.Reason.TheVariants.{Congestion, LifetimeExpiredInReassembly, ReassemblyInterference}
+use Rattle.clnp_plan.specs.Pdus.declared.pdu_header.kind.Kind.{Kind}
+use Rattle.clnp_plan.specs.Pdus.declared.pdu_header.kind.Kind.TheVariants.{Dt, Er, Erq, Erp}
 use Rattle.clnp_plan.specs.PduHeader.Rules.{header_of, is_reportable}
 use Rattle.clnp_plan.specs.PduHeader.Spelling.{header_length, type_code}
-use Rattle.made_pdus.specs.Report.{reason_option, source_of}
-use Rattle.made_pdus.specs.Told.{cause_in, place_in}
-use Rattle.made_pdus.specs.Match.{echoes}
-use Rattle.made_pdus.specs.Reply.{needs_identifier}
-use Rattle.reassembly.specs.Arrival.{Arrival}
-use Rattle.reassembly.specs.Buffer as buffer
-use Rattle.reassembly.specs.Buffer.{Answer, Buffer}
+use Rattle.pdus.specs.MadePdus.Report.{reason_option, source_of}
+use Rattle.pdus.specs.MadePdus.Told.{cause_in, place_in}
+use Rattle.pdus.specs.MadePdus.Match.{echoes}
+use Rattle.pdus.specs.MadePdus.Reply.{needs_identifier}
+use Rattle.system_tables.specs.Reassembly.Arrival.{Arrival}
+use Rattle.system_tables.specs.Reassembly.Buffer as buffer
+use Rattle.system_tables.specs.Reassembly.Buffer.{Answer, Buffer}
 use Rattle.clnp_plan.specs.Configuration.{SystemConfiguration}
 use Rattle.clnp_plan.specs.declared.ask.Ask.{Ask}
 use Rattle.clnp_plan.specs.declared.note.Note.{Note}

@@ -1,7 +1,7 @@
 -- Which echo requests are to be answered, and which of them a reply answers (RFC 1575).
 use Rattle.std.specs.Prelude.{◌≡◌, ℕ, ◌-◌, ◌⊎◌, true, false, List, ◌∷◌, ◌++◌, length, drop}
 use Rattle.std.specs.List.{AllByRecursion}
-use Rattle.clnp_plan.specs.PduHeader.declared.kind.Kind.TheVariants.{Erp}
+use Rattle.clnp_plan.specs.Pdus.declared.pdu_header.kind.Kind.TheVariants.{Erp}
 use Rattle.clnp_machine.specs.Unit.{Packet, DataUnit}
 use Rattle.clnp_machine.specs.Content.{Labelled}
 use Rattle.clnp_machine.specs.System.{Input, AsksForEcho, FrameComes, IsRestarted}

@@ -4,21 +4,21 @@ use Rattle.std.specs.Prelude.{ℕ, zero, suc, ◌+◌, ◌-◌, ◌==◌, ◌&&�
 use Rattle.std.specs.List.{flat_map}
 use Rattle.std.specs.Option.{option_or}
 use Rattle.std.specs.Str.{bytes_eq}
-use Rattle.clnp_plan.specs.Nsap.declared.target.Target.TheVariants.{System, EndSystems}
-use Rattle.esis_pdus.specs.declared.pdu.EsisRefusal.{EsisRefusal}
-use Rattle.esis_pdus.specs.declared.pdu.EsisRefusal.TheVariants.{NotEsis, Broken}
-use Rattle.esis_pdus.specs.Rules.{why_refused}
-use Rattle.clnp_plan.specs.EsisTables.declared.fact.Neighbour.{Neighbour}
-use Rattle.clnp_plan.specs.EsisTables.declared.fact.TableKind.TheVariants.{Es}
+use Rattle.clnp_plan.specs.Pdus.declared.nsap.target.Target.TheVariants.{System, EndSystems}
+use Rattle.pdus.specs.declared.esis_pdus.pdu.EsisRefusal.{EsisRefusal}
+use Rattle.pdus.specs.declared.esis_pdus.pdu.EsisRefusal.TheVariants.{NotEsis, Broken}
+use Rattle.pdus.specs.EsisPdus.Rules.{why_refused}
+use Rattle.clnp_plan.specs.SystemTables.declared.esis_tables.fact.Neighbour.{Neighbour}
+use Rattle.clnp_plan.specs.SystemTables.declared.esis_tables.fact.TableKind.TheVariants.{Es}
 use Rattle.clnp_plan.specs.EsisTables.NextHop as heard
-use Rattle.clnp_plan.specs.Forwarding.declared.route.Route.{Route}
+use Rattle.clnp_plan.specs.SystemTables.declared.forwarding.route.Route.{Route}
 use Rattle.clnp_plan.specs.Forwarding.Longest.{longest}
-use Rattle.clnp_plan.specs.PduHeader.declared.kind.Kind.TheVariants.{Dt}
-use Rattle.clnp_plan.specs.ClnpOptions.declared.judge.OptionRefusal.{OptionRefusal}
+use Rattle.clnp_plan.specs.Pdus.declared.pdu_header.kind.Kind.TheVariants.{Dt}
+use Rattle.clnp_plan.specs.Pdus.declared.clnp_options.judge.OptionRefusal.{OptionRefusal}
 use Rattle.clnp_plan.specs.ClnpOptions.Edits.{advanced, edited, is_complete, marked, recorded, target_of}
 use Rattle.clnp_plan.specs.ClnpOptions.Parameter.{Parameter, quality, recording, source_route}
 use Rattle.clnp_plan.specs.ClnpOptions.Reasons.{reason_code}
-use Rattle.clnp_plan.specs.ClnpOptions.declared.reasons.Reason.TheVariants.{DestinationUnknown, LifetimeExpiredInTransit, NotSpecified, PathNotAcceptable, SegmentationNotPermitted, UnknownAddressInRoute}
+use Rattle.clnp_plan.specs.Pdus.declared.clnp_options.reasons.Reason.TheVariants.{DestinationUnknown, LifetimeExpiredInTransit, NotSpecified, PathNotAcceptable, SegmentationNotPermitted, UnknownAddressInRoute}
 use Rattle.clnp_plan.specs.PduHeader.Rules.{octet, refusal as rule_broken}
 use Rattle.clnp_plan.specs.declared.config.PortConfig.{PortConfig}
 use Rattle.clnp_plan.specs.declared.config.Role.{Role}

@@ -1,9 +1,9 @@
 -- One system: its state, what comes to it, and what it does.
 use Rattle.std.specs.Prelude.{ℕ, ◌+◌, ◌-◌, ◌^◌, min, Bool, false, List, [], ◌++◌}
-use Rattle.clnp_plan.specs.Nsap.declared.target.Target.{Target}
-use Rattle.reassembly.specs.declared.table.TableLimits.{TableLimits}
-use Rattle.reassembly.specs.Buffer.{Buffer}
-use Rattle.esis_pdus.specs.Value.{EsisValue}
+use Rattle.clnp_plan.specs.Pdus.declared.nsap.target.Target.{Target}
+use Rattle.system_tables.specs.declared.reassembly.table.TableLimits.{TableLimits}
+use Rattle.system_tables.specs.Reassembly.Buffer.{Buffer}
+use Rattle.pdus.specs.EsisPdus.Value.{EsisValue}
 use Rattle.clnp_plan.specs.EsisTables.Fact.{Fact}
 use Rattle.clnp_plan.specs.Configuration.{SystemConfiguration}
 use Rattle.clnp_plan.specs.declared.config.Limits.{Limits}

@@ -1,12 +1,12 @@
 -- Units, and the packets that travel: a packet is a labelled range of a unit, and has no octets of its own.
 use Rattle.std.specs.Prelude.{ℕ, ◌+◌, ◌-◌, ◌≤◌, nat_le, nat_lt, Bool, false, if◌then◌else◌, List, [], ◌∷◌, length, map, take, drop, Option, None, Some, option_map}
-use Rattle.clnp_plan.specs.PduHeader.declared.kind.Kind.{Kind}
+use Rattle.clnp_plan.specs.Pdus.declared.pdu_header.kind.Kind.{Kind}
 use Rattle.clnp_plan.specs.ClnpOptions.Parameter.{Parameter}
 use Rattle.clnp_plan.specs.PduHeader.Value.{SegmentationPart, PduValue}
 use Rattle.clnp_plan.specs.PduHeader.Spelling.{spelling, header_length}
 use Rattle.clnp_plan.specs.PduHeader.Grammar.{IsPdu}
-use Rattle.made_pdus.specs.Range.{Range}
-use Rattle.made_pdus.specs.Cut.{data_room, ranges}
+use Rattle.pdus.specs.MadePdus.Range.{Range}
+use Rattle.pdus.specs.MadePdus.Cut.{data_room, ranges}
 
 -- who made a unit: the system declared at a place, from 0, or somebody outside
 pub data Maker : Type 0 where

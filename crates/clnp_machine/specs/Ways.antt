@@ -1,12 +1,12 @@
 -- By which way a packet goes on, and when a router tells its source of a better one.
 use Rattle.std.specs.Prelude.{◌≡◌, ◌≢◌, ℕ, ◌+◌, ◌≤◌, ◌⊎◌, true, List, ◌∷◌, None, Some}
-use Rattle.clnp_plan.specs.Nsap.declared.target.Target.{Target}
-use Rattle.clnp_plan.specs.Nsap.declared.target.Target.TheVariants.{System}
+use Rattle.clnp_plan.specs.Pdus.declared.nsap.target.Target.{Target}
+use Rattle.clnp_plan.specs.Pdus.declared.nsap.target.Target.TheVariants.{System}
 use Rattle.clnp_plan.specs.ClnpOptions.Edits.{is_complete, target_of}
 use Rattle.clnp_plan.specs.PduHeader.Spelling.{header_length}
 use Rattle.clnp_plan.specs.declared.note.Note.TheVariants.{Discard}
-use Rattle.clnp_plan.specs.EsisTables.declared.fact.Neighbour.{Neighbour}
-use Rattle.clnp_plan.specs.EsisTables.declared.fact.TableKind.TheVariants.{Es}
+use Rattle.clnp_plan.specs.SystemTables.declared.esis_tables.fact.Neighbour.{Neighbour}
+use Rattle.clnp_plan.specs.SystemTables.declared.esis_tables.fact.TableKind.TheVariants.{Es}
 use Rattle.clnp_plan.specs.EsisTables.NextHop.{current_neighbour}
 use Rattle.clnp_machine.specs.Unit.{DeclaredAt, Packet, value_of}
 use Rattle.clnp_machine.specs.System.{SystemState, Input, Output, Transmits, Notes, Effect}

@@ -3,7 +3,7 @@ ghost use Rattle.std.specs.Prelude.{◌≡◌, ◌≢◌, ◌<◌, ℕ, List, le
 ghost use Rattle.std.specs.List.{find};
 ghost use Rattle.clnp_plan.specs.Configuration.{IsAddressed, IsSystem, SystemConfiguration};
 ghost use Rattle.clnp_plan.specs.Forwarding.Distinct.{has_prefix};
-ghost use Rattle.clnp_plan.specs.Forwarding.declared.route.Route.{Route};
+ghost use Rattle.clnp_plan.specs.SystemTables.declared.forwarding.route.Route.{Route};
 ghost use Rattle.clnp_plan.specs.declared.config.PortConfig.{PortConfig};
 ghost use Rattle.clnp_machine.specs.Attachment.{Attachment, IsAttached, as_declared};
 ghost use Rattle.clnp_machine.specs.Change.{Change, ChangesFairly, PortIsAt, PortTakes, RouteIsGone, RouteIsSet, changed, with_mtu};

@@ -3,31 +3,31 @@
 ghost use Rattle.std.specs.Prelude.{All, Bool, false, true, ◌≡◌, ◌≢◌, ◌==◌, ◌&&◌, ◌↔◌, ◌⊎◌, ◌<◌, ◌≤◌, ◌+◌, ◌*◌, ◌-◌, ℕ, IsTrue, None, Some, List, [], ◌∷◌, ◌++◌, length, map, not, option_map, slice_get};
 ghost use Rattle.std.specs.List.{AllByRecursion, Contains, filter, flat_map, list_any};
 ghost use Rattle.hex.specs.Hex.{IsBytes};
-ghost use Rattle.clnp_plan.specs.PduHeader.declared.kind.Kind.{Kind};
-ghost use Rattle.clnp_plan.specs.PduHeader.declared.kind.Kind.TheVariants.{Er, Erp};
+ghost use Rattle.clnp_plan.specs.Pdus.declared.pdu_header.kind.Kind.{Kind};
+ghost use Rattle.clnp_plan.specs.Pdus.declared.pdu_header.kind.Kind.TheVariants.{Er, Erp};
 ghost use Rattle.clnp_plan.specs.PduHeader.Spelling.{header_length, type_code};
 ghost use Rattle.clnp_plan.specs.PduHeader.Value.{PduValue};
-ghost use Rattle.made_pdus.specs.Report.{report_of};
-ghost use Rattle.made_pdus.specs.Reply.{reply_of};
-ghost use Rattle.made_pdus.specs.Cut as segmenter;
+ghost use Rattle.pdus.specs.MadePdus.Report.{report_of};
+ghost use Rattle.pdus.specs.MadePdus.Reply.{reply_of};
+ghost use Rattle.pdus.specs.MadePdus.Cut as segmenter;
 ghost use Rattle.clnp_plan.specs.Nsap.Address.{IsAddress};
-ghost use Rattle.clnp_plan.specs.Nsap.declared.target.Target.TheVariants.{System, EndSystems};
+ghost use Rattle.clnp_plan.specs.Pdus.declared.nsap.target.Target.TheVariants.{System, EndSystems};
 ghost use Rattle.clnp_plan.specs.ClnpOptions.Edits.{is_complete, target_of, value_of as option_value};
 ghost use Rattle.clnp_plan.specs.ClnpOptions.Parameter.{Parameter};
-ghost use Rattle.clnp_plan.specs.Forwarding.declared.route.Route.{Route};
+ghost use Rattle.clnp_plan.specs.SystemTables.declared.forwarding.route.Route.{Route};
 ghost use Rattle.clnp_plan.specs.Forwarding.Longest.{longest};
 ghost use Rattle.clnp_plan.specs.PduHeader.Rules.{header_of, is_reportable, kind_of, octet, type_of};
-ghost use Rattle.esis_pdus.specs.Grammar.{IsPdu};
-ghost use Rattle.esis_pdus.specs.Spelling.{spelling};
-ghost use Rattle.esis_pdus.specs.Value.{EsisValue};
-ghost use Rattle.reassembly.specs.declared.segment.Shape.{Shape};
-ghost use Rattle.reassembly.specs.declared.table.TableLimits.{TableLimits};
-ghost use Rattle.reassembly.specs.Arrival.{Arrival};
-ghost use Rattle.reassembly.specs.Buffer as buffer;
-ghost use Rattle.reassembly.specs.Buffer.{Buffer, buffer_of, clashes, due, first_carried, held, without};
+ghost use Rattle.pdus.specs.EsisPdus.Grammar.{IsPdu};
+ghost use Rattle.pdus.specs.EsisPdus.Spelling.{spelling};
+ghost use Rattle.pdus.specs.EsisPdus.Value.{EsisValue};
+ghost use Rattle.system_tables.specs.declared.reassembly.segment.Shape.{Shape};
+ghost use Rattle.system_tables.specs.declared.reassembly.table.TableLimits.{TableLimits};
+ghost use Rattle.system_tables.specs.Reassembly.Arrival.{Arrival};
+ghost use Rattle.system_tables.specs.Reassembly.Buffer as buffer;
+ghost use Rattle.system_tables.specs.Reassembly.Buffer.{Buffer, buffer_of, clashes, due, first_carried, held, without};
 ghost use Rattle.clnp_plan.specs.Configuration.{IsAddressedRoute, IsPort, IsSystem};
-ghost use Rattle.clnp_plan.specs.EsisTables.declared.fact.Neighbour.{Neighbour};
-ghost use Rattle.clnp_plan.specs.EsisTables.declared.fact.TableKind.TheVariants.{Es, Rd};
+ghost use Rattle.clnp_plan.specs.SystemTables.declared.esis_tables.fact.Neighbour.{Neighbour};
+ghost use Rattle.clnp_plan.specs.SystemTables.declared.esis_tables.fact.TableKind.TheVariants.{Es, Rd};
 ghost use Rattle.clnp_plan.specs.EsisTables.NextHop.{current_neighbour, last_router};
 ghost use Rattle.clnp_plan.specs.EsisTables.Gone.{gone};
 ghost use Rattle.clnp_plan.specs.declared.ask.Ask.{Ask};
@@ -485,7 +485,7 @@ pub fn reports_make_no_storm()
         → kind_of (type_of (header_of (frame_of frame))) ≡ Some Er
         → made_in (discard s frame reason place).actions ≡ [] }
 {
-    made_pdus::report_laws::no_report_of_a_report();
+    pdus::made_pdus::report_laws::no_report_of_a_report();
 }
 
 /// Whatever comes in a frame makes a system make at most one unit.
@@ -632,7 +632,7 @@ pub fn esis_pdus_break_no_rule()
 pub fn a_frame_carries_one_esis_value()
     ensures { CarriesOneEsisValue }
 {
-    esis_pdus::laws::one_value();
+    pdus::esis_pdus::laws::one_value();
 }
 
 /// No frame is of both protocols: one that carries a packet begins with 0x81, one that carries an ES-IS
@@ -643,7 +643,7 @@ pub fn no_frame_is_of_both_protocols()
         → octet (spelling value ++ following) 1 ≡ 0x82 }
 {
     clnp_plan::clnp::laws::spelled_where_no_rule_is_broken();
-    esis_pdus::laws::spelled_where_no_rule_is_broken();
+    pdus::esis_pdus::laws::spelled_where_no_rule_is_broken();
 }
 
 /// What the laws of options and of PDUs say of a router's edits.

@@ -3,7 +3,9 @@
 #![tactic(auto)]
 
 pub mod attaching;
+pub mod clnp_network;
 pub mod laws;
+pub mod live_model;
 pub mod way;
 
 pub use clnp_plan::{clnp, hearing, options, routing, views};
@@ -24,7 +26,7 @@ pub mod system_plan {
 
 /// ES-IS PDUs.
 pub mod esis {
-    pub use esis_pdus::{
+    pub use pdus::esis_pdus::{
         AddressList, EsisBody, EsisPdu, EsisRefusal, HelloRefusal, decode, esh, ish, rd,
     };
 }
@@ -36,20 +38,20 @@ pub mod base {
 
 /// The echo function.
 pub mod echoing {
-    pub use made_pdus::{echo_laws as laws, matches_parts, needs_id};
+    pub use pdus::made_pdus::{echo_laws as laws, matches_parts, needs_id};
 }
 
 /// Error reports.
 pub mod reports {
-    pub use made_pdus::{read, report_in};
+    pub use pdus::made_pdus::{read, report_in};
 }
 
 /// Reassembly buffers.
 pub mod reassembling {
-    pub use reassembly::{Accept, Key, Segment, Shape, SlotNo, Table, TableLimits};
+    pub use system_tables::reassembly::{Accept, Key, Segment, Shape, SlotNo, Table, TableLimits};
 }
 
 /// PDUs cut into segments.
 pub mod segmenting {
-    pub use made_pdus::{Cut, Cuts, NotPermitted};
+    pub use pdus::made_pdus::{Cut, Cuts, NotPermitted};
 }

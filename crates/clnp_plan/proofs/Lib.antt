@@ -1,8 +1,9 @@
-pub use Rattle.pdu_header.proofs.ClnpBase
-pub use Rattle.pdu_header.proofs.Nsap
-pub use Rattle.pdu_header.proofs.ClnpOptions
-pub use Rattle.pdu_header.proofs as PduHeader
-pub use Rattle.esis_tables.proofs as EsisTables
-pub use Rattle.forwarding.proofs as Forwarding
+pub use Rattle.pdus.proofs.ClnpBase
+pub use Rattle.pdus.proofs.ClnpOptions
+pub use Rattle.pdus.proofs.NsapFacts as Nsap
+pub use Rattle.pdus.proofs.PduHeader
+pub use Rattle.system_tables.proofs.EsisTables
+pub use Rattle.system_tables.proofs.ForwardingFacts as Forwarding
 mod DigitSteps
 mod Laying
+pub mod ScenarioPlan

@@ -1,8 +1,8 @@
 -- What a system is asked to send.
 use Rattle.std.specs.Prelude.{ℕ, ◌<◌, List}
-use Rattle.pdu_header.specs.Nsap.Address.{IsAddress}
-use Rattle.pdu_header.specs.ClnpOptions.Grammar.{AreFormed}
-use Rattle.pdu_header.specs.ClnpOptions.Parameter.{parameters}
+use Rattle.pdus.specs.Nsap.Address.{IsAddress}
+use Rattle.pdus.specs.ClnpOptions.Grammar.{AreFormed}
+use Rattle.pdus.specs.ClnpOptions.Parameter.{parameters}
 use Rattle.clnp_plan.specs.declared.ask.Ask.{Ask}
 
 -- A data unit is asked for between two addresses (ISO 8473, section 7.3), with a lifetime that one octet holds (section

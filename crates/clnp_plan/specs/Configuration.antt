@@ -1,9 +1,9 @@
 -- What a scenario says of one system, and how long things last in a network.
 use Rattle.std.specs.Prelude.{◌≡◌, ◌≢◌, ℕ, ◌+◌, ◌*◌, ◌<◌, ◌≤◌, List, [], length, All, AllPairs}
 use Rattle.std.specs.List.{AllByRecursion}
-use Rattle.pdu_header.specs.Nsap.Address.{IsAddress}
-use Rattle.forwarding.specs.declared.route.Route.{Route}
-use Rattle.forwarding.specs.Distinct as prefixes
+use Rattle.pdus.specs.Nsap.Address.{IsAddress}
+use Rattle.system_tables.specs.declared.forwarding.route.Route.{Route}
+use Rattle.system_tables.specs.Forwarding.Distinct as prefixes
 use Rattle.clnp_plan.specs.declared.config.Limits.{Limits}
 use Rattle.clnp_plan.specs.declared.config.Role.{Role}
 use Rattle.clnp_plan.specs.declared.config.Role.TheVariants.{Host, Router}

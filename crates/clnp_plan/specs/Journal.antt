@@ -2,16 +2,16 @@
 use Rattle.std.specs.Prelude.{ℕ, Bool, true, false, List, [], ◌∷◌, ◌++◌, codes, Option, None, Some}
 use Rattle.std.specs.List.{flat_map}
 use Rattle.std.specs.Fmt.{decimal}
-use Rattle.pdu_header.specs.Nsap.Prefix.{prefix_text}
-use Rattle.pdu_header.specs.Nsap.Text.{hex_text}
-use Rattle.pdu_header.specs.Nsap.declared.target.Target.{Target}
-use Rattle.pdu_header.specs.Nsap.declared.target.Target.TheVariants.{System, EndSystems, Routers}
-pub use Rattle.pdu_header.specs.Kinds.{kind_word}
-use Rattle.pdu_header.specs.Spelling.{pair_of}
-use Rattle.esis_tables.specs.declared.fact.Heard.{Heard}
-use Rattle.esis_tables.specs.declared.fact.Heard.TheVariants as hearing
-use Rattle.esis_tables.specs.declared.fact.TableKind.{TableKind}
-use Rattle.esis_tables.specs.declared.fact.TableKind.TheVariants as table_kind
+use Rattle.pdus.specs.Nsap.Prefix.{prefix_text}
+use Rattle.pdus.specs.Nsap.Text.{hex_text}
+use Rattle.pdus.specs.declared.nsap.target.Target.{Target}
+use Rattle.pdus.specs.declared.nsap.target.Target.TheVariants.{System, EndSystems, Routers}
+pub use Rattle.pdus.specs.PduHeader.Kinds.{kind_word}
+use Rattle.pdus.specs.PduHeader.Spelling.{pair_of}
+use Rattle.system_tables.specs.declared.esis_tables.fact.Heard.{Heard}
+use Rattle.system_tables.specs.declared.esis_tables.fact.Heard.TheVariants as hearing
+use Rattle.system_tables.specs.declared.esis_tables.fact.TableKind.{TableKind}
+use Rattle.system_tables.specs.declared.esis_tables.fact.TableKind.TheVariants as table_kind
 use Rattle.clnp_plan.specs.declared.journal.Telling.{Telling}
 use Rattle.clnp_plan.specs.declared.journal.Telling.TheVariants as telling
 use Rattle.clnp_plan.specs.declared.note.Note.{Note}

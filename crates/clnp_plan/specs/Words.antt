@@ -1,9 +1,9 @@
 -- The words of a line, as the code has them.
 use Rattle.std.specs.Prelude.{ℕ, List, [], ◌∷◌, ◌++◌, codes}
 use Rattle.std.specs.Fmt.{decimal}
-use Rattle.pdu_header.specs.Nsap.Prefix.{prefix_text}
-use Rattle.pdu_header.specs.Nsap.Text.{hex_text}
-use Rattle.pdu_header.specs.Spelling.{pair_of}
+use Rattle.pdus.specs.Nsap.Prefix.{prefix_text}
+use Rattle.pdus.specs.Nsap.Text.{hex_text}
+use Rattle.pdus.specs.PduHeader.Spelling.{pair_of}
 use Rattle.clnp_plan.specs.declared.line.Word.{Word}
 use Rattle.clnp_plan.specs.declared.line.Word.TheVariants.{Text, Number, KeyedNumber, Octet, Identifier, Octets, Parts, KeyedOctets, Address, Prefix, Pattern}
 use Rattle.clnp_plan.specs.declared.journal.Start.{Start}

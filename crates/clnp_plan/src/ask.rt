@@ -1,5 +1,5 @@
 //! What a system is asked to send, and why it doesn't.
-use pdu_header::options::OptionList;
+use pdus::pdu_header::options::OptionList;
 
 /// How a data unit is to be sent.
 #[derive(Clone, Copy)]

@@ -2,11 +2,11 @@
 ghost use Rattle.std.specs.Prelude.{◌≡◌, IfOk};
 ghost use Rattle.clnp_plan.specs.Configuration.{HasItsPorts, IsSystem};
 
-use forwarding::Route;
-use pdu_header::base::NoMemory;
-use pdu_header::nsaps::{Address, Snpa};
+use pdus::pdu_header::base::NoMemory;
+use pdus::pdu_header::nsaps::{Address, Snpa};
 use std::alloc::Global;
 use std::marker::Model;
+use system_tables::forwarding::Route;
 
 /// What a system is.
 #[derive(Clone, Copy, PartialEq, Eq)]

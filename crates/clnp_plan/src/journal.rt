@@ -1,9 +1,9 @@
 //! The text of the lines of journals and traces.
 ghost use Rattle.std.specs.Prelude.{◌≡◌, [], ◌∷◌, ◌++◌, codes, OnOk, OnErr};
 ghost use Rattle.std.specs.Fmt.{decimal};
-ghost use Rattle.pdu_header.specs.Nsap.Prefix.{prefix_text};
-ghost use Rattle.pdu_header.specs.Nsap.Text.{hex_text};
-ghost use Rattle.pdu_header.specs.Spelling.{pair_of};
+ghost use Rattle.pdus.specs.Nsap.Prefix.{prefix_text};
+ghost use Rattle.pdus.specs.Nsap.Text.{hex_text};
+ghost use Rattle.pdus.specs.PduHeader.Spelling.{pair_of};
 ghost use Rattle.clnp_plan.specs.Journal.{ForNobody, Injected, Late, Lost, Noted, Received, Resized, Transmitted, Void, line_of, line_text, trace_text, end_text, heard_words, ignored_word, kind_word, table_word, why_word, octet_word, octets_word, identifier_word, rule_word, yes_or_no};
 ghost use Rattle.clnp_plan.specs.Words.{line_from, word_text};
 
@@ -11,12 +11,12 @@ use crate::line::{
     Word, frame_word, kind_word, octets_word, on_or_off, push_line, push_line_of_six, target_text,
 };
 use crate::note::{Note, Why};
-use esis_tables::{Heard, TableKind};
-use pdu_header::Kind;
-use pdu_header::base::{NoMemory, Octets};
-use pdu_header::nsaps::{Address, Snpa, Target};
-use pdu_header::views::Frame;
+use pdus::pdu_header::Kind;
+use pdus::pdu_header::base::{NoMemory, Octets};
+use pdus::pdu_header::nsaps::{Address, Snpa, Target};
+use pdus::pdu_header::views::Frame;
 use std::alloc::Global;
+use system_tables::esis_tables::{Heard, TableKind};
 
 /// Which lines of moves are written.
 #[derive(Clone, Copy)]

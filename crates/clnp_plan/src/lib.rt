@@ -9,6 +9,7 @@ mod journal;
 mod line;
 mod note;
 mod output;
+pub mod scenario_plan;
 
 pub use ask::{Ask, SendRefusal};
 pub use config::{Limits, PortConfig, Role, Settings, SystemConfig};
@@ -22,12 +23,12 @@ pub use output::{Output, Sending};
 
 /// NSAP addresses, their prefixes, SNPAs, and targets.
 pub mod nsaps {
-    pub use pdu_header::nsaps::{Address, Prefix, Snpa, Target, laws};
+    pub use pdus::pdu_header::nsaps::{Address, Prefix, Snpa, Target, laws};
 }
 
 /// CLNP PDUs.
 pub mod clnp {
-    pub use pdu_header::{
+    pub use pdus::pdu_header::{
         FIXED_PART, Header, HeaderRefusal, Kind, Parts, Pdu, Refusal, SEGMENTATION_PART, SegPart,
         decode, decode_frame, laws,
     };
@@ -35,7 +36,7 @@ pub mod clnp {
 
 /// Octets and text.
 pub mod base {
-    pub use pdu_header::base::{
+    pub use pdus::pdu_header::base::{
         DigitValues, InlineOctets, NoMemory, Octets, decimal, is_skipped, lines, next_line,
         next_word, push, same, words,
     };
@@ -43,20 +44,22 @@ pub mod base {
 
 /// The options part of a header.
 pub mod options {
-    pub use pdu_header::options::{OptionList, Reason, laws};
+    pub use pdus::pdu_header::options::{OptionList, Reason, laws};
 }
 
 /// Octets handed on.
 pub mod views {
-    pub use pdu_header::views::{Frame, Head, View};
+    pub use pdus::pdu_header::views::{Frame, Head, View};
 }
 
 /// What is heard of neighbours.
 pub mod hearing {
-    pub use esis_tables::{EsisLimits, Gone, Heard, Neighbour, TableKind, Tables, laws};
+    pub use system_tables::esis_tables::{
+        EsisLimits, Gone, Heard, Neighbour, TableKind, Tables, laws,
+    };
 }
 
 /// Configured routes.
 pub mod routing {
-    pub use forwarding::{Route, RouteRefusal, Routes, laws};
+    pub use system_tables::forwarding::{Route, RouteRefusal, Routes, laws};
 }

@@ -5,16 +5,16 @@ ghost use Rattle.std.specs.List.{flat_map};
 ghost use Rattle.clnp_plan.specs.Journal.{behind_space, line_of, octets_word, on_or_off, target_text};
 ghost use Rattle.clnp_plan.specs.Words.{five_texts, word_text};
 ghost use Rattle.clnp_plan.specs.Laying.{HasRoom, Lays};
-ghost use Rattle.pdu_header.specs.Kinds.{kind_word};
-ghost use Rattle.pdu_header.specs.Nsap.Prefix.{prefix_text};
-ghost use Rattle.pdu_header.specs.Nsap.Text.{hex_text};
+ghost use Rattle.pdus.specs.PduHeader.Kinds.{kind_word};
+ghost use Rattle.pdus.specs.Nsap.Prefix.{prefix_text};
+ghost use Rattle.pdus.specs.Nsap.Text.{hex_text};
 
 use crate::digits::lay_digits;
 use itoa::Buffer;
-use pdu_header::Kind;
-use pdu_header::base::{NoMemory, copy_over, push};
-use pdu_header::nsaps::{Address, Prefix, Target};
-use pdu_header::views::Frame;
+use pdus::pdu_header::Kind;
+use pdus::pdu_header::base::{NoMemory, copy_over, push};
+use pdus::pdu_header::nsaps::{Address, Prefix, Target};
+use pdus::pdu_header::views::Frame;
 
 /// The most decimal digits of a number.
 const MOST_DIGITS: usize = 20;

@@ -1,7 +1,7 @@
-use esis_tables::{Heard, TableKind};
-use pdu_header::Kind;
-use pdu_header::base::Octets;
-use pdu_header::nsaps::{Address, Prefix, Snpa};
+use pdus::pdu_header::Kind;
+use pdus::pdu_header::base::Octets;
+use pdus::pdu_header::nsaps::{Address, Prefix, Snpa};
+use system_tables::esis_tables::{Heard, TableKind};
 
 /// Why a unit wasn't made.
 #[derive(Clone, Copy)]

@@ -1,7 +1,7 @@
 //! What a system gives out.
 use crate::note::Note;
-use pdu_header::nsaps::Target;
-use pdu_header::views::Frame;
+use pdus::pdu_header::nsaps::Target;
+use pdus::pdu_header::views::Frame;
 
 /// A frame that goes out on a port.
 #[derive(Drop)]

@@ -1,8 +1,8 @@
 -- What the author of a refused input is told.
 use Rattle.std.specs.Prelude.{◌≡◌, ℕ, ◌&&◌, Bool, true, false, List, [], Result, Ok, Err}
-use Rattle.live_commands.specs.ScenarioAdvice.Said.{IsTold}
-use Rattle.capture_commands.specs.CommandBase.declared.status.Status.{Status}
-use Rattle.capture_commands.specs.CommandBase.declared.status.Status.TheVariants.{BadInput}
+use Rattle.live_node.specs.ScenarioAdvice.Said.{IsTold}
+use Rattle.captures.specs.ClnpBase.declared.command_base.status.Status.{Status}
+use Rattle.captures.specs.ClnpBase.declared.command_base.status.Status.TheVariants.{BadInput}
 use Rattle.clnp_program.specs.declared.command.Command.{Command}
 use Rattle.clnp_program.specs.declared.command.Command.TheVariants.{Whole, Streamed, Run}
 use Rattle.clnp_program.specs.declared.command.WholeCommand.{WholeCommand}

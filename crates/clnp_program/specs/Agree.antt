@@ -1,18 +1,18 @@
 -- What commands make of one another's output, and what a share is worth.
 use Rattle.std.specs.Prelude.{◌≡◌, ℕ, ◌≤◌, List, length, map, IfOk}
 use Rattle.hex.specs.Hex.{IsBytes}
-use Rattle.network_commands.specs.ClnpBase.Text.{lines_of}
-use Rattle.capture_commands.specs.CommandBase.declared.status.Status.TheVariants.{Done}
-use Rattle.network_commands.specs.ScenarioWriting.Scenario.Grammar.{plan_of_version_1}
-use Rattle.network_commands.specs.ClnpSafety.Migrated.{IsMigrated}
-use Rattle.capture_commands.specs.RoundTrip.{EndsPlainly, IsAcceptedCapture, PacksTo, ShowsAs, without_skipped}
-use Rattle.capture_commands.specs.PcapFrames.File.{Captured}
-use Rattle.capture_commands.specs.PcapFrames.Making.{frames_in, made_record}
-use Rattle.capture_commands.specs.PcapFrames.Reading.{Ending, IsReadAs}
-use Rattle.capture_commands.specs.declared.form.Form.TheVariants.{Remade}
-use Rattle.capture_commands.specs.Laws.{lines_of_frames}
-use Rattle.capture_commands.specs.Lines.{TellsRecords}
-use Rattle.capture_commands.specs.Make.{frames_of, make_status}
+use Rattle.clnp_world.specs.ClnpBase.Text.{lines_of}
+use Rattle.captures.specs.ClnpBase.declared.command_base.status.Status.TheVariants.{Done}
+use Rattle.clnp_world.specs.Scenario.Grammar.{plan_of_version_1}
+use Rattle.clnp_world.specs.ClnpSafety.Migrated.{IsMigrated}
+use Rattle.captures.specs.CaptureCommands.RoundTrip.{EndsPlainly, IsAcceptedCapture, PacksTo, ShowsAs, without_skipped}
+use Rattle.captures.specs.PcapFrames.File.{Captured}
+use Rattle.captures.specs.PcapFrames.Making.{frames_in, made_record}
+use Rattle.captures.specs.PcapFrames.Reading.{Ending, IsReadAs}
+use Rattle.captures.specs.declared.capture_commands.form.Form.TheVariants.{Remade}
+use Rattle.captures.specs.CaptureCommands.Laws.{lines_of_frames}
+use Rattle.captures.specs.CaptureCommands.Lines.{TellsRecords}
+use Rattle.captures.specs.CaptureCommands.Make.{frames_of, make_status}
 use Rattle.fair_commands.specs.Fair.{IsFair}
 use Rattle.fair_commands.specs.Grammar.{capture_of}
 

@@ -1,7 +1,7 @@
 -- Which statuses are faults.
 use Rattle.std.specs.Prelude.{Option, None, Some}
-use Rattle.capture_commands.specs.CommandBase.declared.status.Status.{Status}
-use Rattle.capture_commands.specs.CommandBase.declared.status.Status.TheVariants as status
+use Rattle.captures.specs.ClnpBase.declared.command_base.status.Status.{Status}
+use Rattle.captures.specs.ClnpBase.declared.command_base.status.Status.TheVariants as status
 use Rattle.clnp_program.specs.declared.fault.Fault.{Fault}
 use Rattle.clnp_program.specs.declared.fault.Fault.TheVariants.{BadWords, TooLong, BadInput, WorldFull, ReadFault, WriteFault, LinksGone, NoMemory}
 

@@ -1,12 +1,12 @@
 -- What a call makes of its words, a source and a sink.
 use Rattle.std.specs.Prelude.{◌≡◌, ◌≢◌, ℕ, ◌⊎◌, List, [], Option, Result, Ok, Err, IfSome}
 use Rattle.std.specs.Io.KnownBytes.{Keeps}
-use Rattle.capture_commands.specs.CommandBase.declared.status.Status.{Status}
-use Rattle.capture_commands.specs.CommandBase.declared.status.Status.TheVariants.{Done, BadWords, TooLong, BadInput, WorldFull, ReadFault, WriteFault, LinksGone, NoMemory}
-use Rattle.capture_commands.specs.CommandBase.Reading.{Excuses, TakesTooMany, TakesWithin}
-use Rattle.capture_commands.specs.declared.form.Form.{Form}
-use Rattle.capture_commands.specs.declared.form.Form.TheVariants.{Shown, Remade}
-use Rattle.capture_commands.specs.Serves.{ServesFile}
+use Rattle.captures.specs.ClnpBase.declared.command_base.status.Status.{Status}
+use Rattle.captures.specs.ClnpBase.declared.command_base.status.Status.TheVariants.{Done, BadWords, TooLong, BadInput, WorldFull, ReadFault, WriteFault, LinksGone, NoMemory}
+use Rattle.captures.specs.CommandBase.Reading.{Excuses, TakesTooMany, TakesWithin}
+use Rattle.captures.specs.declared.capture_commands.form.Form.{Form}
+use Rattle.captures.specs.declared.capture_commands.form.Form.TheVariants.{Shown, Remade}
+use Rattle.captures.specs.CaptureCommands.Serves.{ServesFile}
 use Rattle.clnp_program.specs.declared.command.Command.{Command}
 use Rattle.clnp_program.specs.declared.command.Command.TheVariants.{Whole, Streamed, Run}
 use Rattle.clnp_program.specs.declared.command.WholeCommand.{WholeCommand}

@@ -2,14 +2,14 @@
 use Rattle.std.specs.Prelude.{◌≡◌, ℕ, ◌+◌, ◌&&◌, nat_le, nat_lt, Bool, true, false, if◌then◌else◌, List, [], ◌∷◌, codes, Option, None, Some, Result, Ok, Err}
 use Rattle.std.specs.Str.{bytes_eq}
 use Rattle.std.specs.Io.KnownBytes.{Keeps}
-use Rattle.network_commands.specs.ClnpBase.Text.{decimal_of}
-use Rattle.link_board.specs.Words.{is_link_word}
+use Rattle.clnp_world.specs.ClnpBase.Text.{decimal_of}
+use Rattle.frame_links.specs.LinkBoard.Words.{is_link_word}
 use Rattle.clnp_program.specs.declared.command.Command.{Command}
 use Rattle.clnp_program.specs.declared.command.Command.TheVariants.{Whole, Streamed, Run}
 use Rattle.clnp_program.specs.declared.command.WholeCommand.{WholeCommand}
 use Rattle.clnp_program.specs.declared.command.WholeCommand.TheVariants.{Sim, Trace, Show, Check, Pack, PcapMake, Reassemble, Migrate, Storm}
 use Rattle.clnp_program.specs.declared.command.StreamedCommand.TheVariants.{PcapShow, PcapLines}
-use Rattle.capture_commands.specs.CommandBase.Reading.{ReadsWhole}
+use Rattle.captures.specs.CommandBase.Reading.{ReadsWhole}
 
 -- the command of this name that reads an input
 abbrev pub command_named : List ℕ → Option Command

@@ -1,7 +1,7 @@
 //! A call of the program over its words, its input, its output and standard error.
 ghost use Rattle.std.specs.Prelude.{◌≡◌, ◌≤◌, ◌⊎◌, ℕ, false, List, [], map, string_bytes};
 ghost use Rattle.clnp_program.specs.Advised.{Advised, is_bad_input};
-ghost use Rattle.network_commands.specs.ClnpBase.Streams.{Rose};
+ghost use Rattle.clnp_world.specs.ClnpBase.Streams.{Rose};
 ghost use Rattle.clnp_program.specs.Words.{command_of};
 ghost use Rattle.clnp_program.specs.declared.fault.Fault.{Fault};
 ghost use Rattle.clnp_program.specs.Answers.{Answers, Ends, Informs, Runs, WritesLine};
@@ -9,10 +9,10 @@ ghost use Rattle.clnp_program.specs.Answers.{Answers, Ends, Informs, Runs, Write
 use crate::fault::{Fault, report, write_fault};
 use crate::help::information;
 use crate::top::clnp_main;
-use live_commands::Ports;
-use live_commands::advising::Advice;
-use network_commands::Status;
-use network_commands::base::{Clock, Sink, Source, write_all};
+use clnp_world::network_commands::Status;
+use clnp_world::network_commands::base::{Clock, Sink, Source, write_all};
+use live_node::live_commands::Ports;
+use live_node::live_commands::advising::Advice;
 use std::alloc::Global;
 
 /// The exit number where the local end of a link word can't be bound.

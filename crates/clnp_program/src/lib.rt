@@ -15,20 +15,20 @@ mod pages;
 mod top;
 
 pub use call::{end, end_without_link, run};
+pub use clnp_world::network_commands::{Status, scenarios};
 pub use command::{Command, StreamedCommand, WholeCommand, link_places};
 pub use fault::Fault;
-pub use live_commands::advising::Advice;
-pub use network_commands::{Status, scenarios};
+pub use live_node::live_commands::advising::Advice;
 pub use top::clnp_main;
 
 /// Octets, their sources and sinks, and clocks.
 pub mod base {
-    pub use network_commands::base::{
+    pub use clnp_world::network_commands::base::{
         Clock, Failed, HalfSeconds, NoMemory, Sink, Source, StdSink, StdSource, write_all,
     };
 }
 
 /// A network of systems, move by move.
 pub mod worlds {
-    pub use network_commands::worlds::{Counts, Move, World};
+    pub use clnp_world::network_commands::worlds::{Counts, Move, World};
 }

@@ -1,38 +1,38 @@
 //! The top call: words and input in, output and a status out.
 ghost use Rattle.std.specs.Prelude.{◌≡◌, ◌≢◌, ◌≤◌, ℕ, false, List, [], length, map, IfOk, OnOk, Ok, Err, string_bytes};
-ghost use Rattle.network_commands.specs.ClnpBase.Streams.{Rose};
-ghost use Rattle.network_commands.specs.ScenarioWriting.Scenario.Grammar.{plan_of};
-ghost use Rattle.network_commands.specs.ScenarioWriting.Canonical.{text_of};
-ghost use Rattle.network_commands.specs.ScenarioPlan.Plan.{IsClosed};
-ghost use Rattle.network_commands.specs.ScenarioWriting.Seeds as seeds;
-ghost use Rattle.network_commands.specs.ClnpSafety.Runs.{RunsAreSafe};
+ghost use Rattle.clnp_world.specs.ClnpBase.Streams.{Rose};
+ghost use Rattle.clnp_world.specs.Scenario.Grammar.{plan_of};
+ghost use Rattle.clnp_world.specs.ScenarioWriting.Canonical.{text_of};
+ghost use Rattle.clnp_world.specs.ScenarioPlan.Plan.{IsClosed};
+ghost use Rattle.clnp_world.specs.ScenarioWriting.Seeds as seeds;
+ghost use Rattle.clnp_world.specs.ClnpSafety.Runs.{RunsAreSafe};
 ghost use Rattle.clnp_program.specs.Words.{command_of, reads, Reads};
 ghost use Rattle.clnp_program.specs.Advised.{Advised};
 ghost use Rattle.clnp_program.specs.declared.command.Command.TheVariants.{Whole};
-ghost use Rattle.capture_commands.specs.Serves.{ServesFile};
-ghost use Rattle.capture_commands.specs.CommandBase.Reading.{TakesTooMany, TakesWithin};
+ghost use Rattle.captures.specs.CaptureCommands.Serves.{ServesFile};
+ghost use Rattle.captures.specs.CommandBase.Reading.{TakesTooMany, TakesWithin};
 ghost use Rattle.clnp_program.specs.Live.{RunsAs};
 ghost use Rattle.clnp_program.specs.Serves.{Serves, ServesCommand, form_of};
 ghost use Rattle.clnp_program.specs.Tasks.{task};
 ghost use Rattle.clnp_program.specs.Agree.{TextsAgree};
-ghost use Rattle.capture_commands.specs.CommandBase.ComesAs.{ComesAs, most_input};
+ghost use Rattle.captures.specs.CommandBase.ComesAs.{ComesAs, most_input};
 
 use crate::advise::advice_on;
 use crate::command::{Command, StreamedCommand, WholeCommand};
-use capture_commands::check::check;
-use capture_commands::pack::pack;
-use capture_commands::show::show;
-use capture_commands::{pcap_lines, pcap_make, pcap_show};
+use captures::capture_commands::check::check;
+use captures::capture_commands::pack::pack;
+use captures::capture_commands::show::show;
+use captures::capture_commands::{pcap_lines, pcap_make, pcap_show};
+use clnp_world::network_commands::base::{Clock, ReadStop, Sink, Source, read_all};
+use clnp_world::network_commands::migrate::migrate;
+use clnp_world::network_commands::safety::{runs_are_safe, texts_of_version_1_migrate};
+use clnp_world::network_commands::scenarios::laws;
+use clnp_world::network_commands::sim::sim;
+use clnp_world::network_commands::storm::storm;
+use clnp_world::network_commands::{Status, Telling};
 use fair_commands::reassemble;
-use live_commands::advising::Advice;
-use live_commands::{Ports, run_system};
-use network_commands::base::{Clock, ReadStop, Sink, Source, read_all};
-use network_commands::migrate::migrate;
-use network_commands::safety::{runs_are_safe, texts_of_version_1_migrate};
-use network_commands::scenarios::laws;
-use network_commands::sim::sim;
-use network_commands::storm::storm;
-use network_commands::{Status, Telling};
+use live_node::live_commands::advising::Advice;
+use live_node::live_commands::{Ports, run_system};
 use std::alloc::Global;
 
 /// The most octets of an input.
@@ -155,10 +155,10 @@ fn every_run_is_safe()
 fn texts_agree()
     ensures { TextsAgree }
 {
-    capture_commands::laws::what_is_shown_is_packed_again();
-    capture_commands::laws::what_is_packed_is_shown_again();
-    capture_commands::pcap_laws::lines_make_the_frames_again();
-    capture_commands::pcap_laws::a_made_file_gives_its_lines_again();
+    captures::capture_commands::laws::what_is_shown_is_packed_again();
+    captures::capture_commands::laws::what_is_packed_is_shown_again();
+    captures::capture_commands::pcap_laws::lines_make_the_frames_again();
+    captures::capture_commands::pcap_laws::a_made_file_gives_its_lines_again();
     fair_commands::shares_are_fair();
     texts_of_version_1_migrate();
 }

@@ -10,18 +10,18 @@ use Rattle.clnp_machine.specs.Nsap.Address.{IsAddress}
 use Rattle.clnp_machine.specs.ClnpOptions.Edits.{is_complete, target_of}
 use Rattle.clnp_machine.specs.ClnpOptions.Parameter.{Parameter}
 use Rattle.clnp_machine.specs.ClnpOptions.Reasons.{reason_code}
-use Rattle.clnp_machine.specs.ClnpOptions.declared.reasons.Reason.TheVariants.{Congestion}
-use Rattle.clnp_machine.specs.PduHeader.declared.kind.Kind.{Kind}
-use Rattle.clnp_machine.specs.PduHeader.declared.kind.Kind.TheVariants.{Dt, Er, Erq, Erp}
+use Rattle.clnp_machine.specs.Pdus.declared.clnp_options.reasons.Reason.TheVariants.{Congestion}
+use Rattle.clnp_machine.specs.Pdus.declared.pdu_header.kind.Kind.{Kind}
+use Rattle.clnp_machine.specs.Pdus.declared.pdu_header.kind.Kind.TheVariants.{Dt, Er, Erq, Erp}
 use Rattle.clnp_machine.specs.ClnpPlan.declared.note.Note.{Note}
 use Rattle.clnp_machine.specs.ClnpPlan.declared.note.Note.TheVariants as note
-use Rattle.clnp_network.specs.ScenarioPlan.Plan.{IsFit, Plan}
+use Rattle.clnp_machine.specs.ScenarioPlan.Plan.{IsFit, Plan}
 use Rattle.clnp_machine.specs.Reassembly.Arrival.{data_len, same_key}
 use Rattle.clnp_machine.specs.Reassembly.Buffer as buffer
 use Rattle.clnp_machine.specs.Reassembly.Buffer.{Answer, Buffer, buffer_of, held, is_whole, size_of, without}
 use Rattle.clnp_machine.specs.Unit.{DataUnit, IsCarriable, Packet, cut, value_of}
 use Rattle.clnp_machine.specs.Content.{Content, IsCarried, Labelled, Esis, Unlabelled}
-use Rattle.clnp_machine.specs.EsisTables.declared.fact.Neighbour.{Neighbour}
+use Rattle.clnp_machine.specs.SystemTables.declared.esis_tables.fact.Neighbour.{Neighbour}
 use Rattle.clnp_machine.specs.Esis.{esis_comes, is_silent, tells_of_itself}
 use Rattle.clnp_machine.specs.System.{SystemState, Effect, FrameComes, Transmits, table_limits}
 use Rattle.clnp_machine.specs.Local.{Deed, and_then, data_in, discard, echo_ask, hand_up, is_all, is_answer, is_own, octet_of, offer, offered, receive, takes_in, takes_reply, tells}
@@ -33,9 +33,9 @@ use Rattle.clnp_machine.specs.Told.{TellsNoInterference}
 use Rattle.clnp_machine.specs.ClnpPlan.declared.config.PortConfig.{PortConfig}
 use Rattle.clnp_machine.specs.ClnpPlan.declared.config.Role.{Role}
 use Rattle.clnp_machine.specs.ClnpPlan.declared.config.Role.TheVariants.{Host, Router}
-use Rattle.clnp_network.specs.LabelledNetwork.{LabelledNetwork}
-use Rattle.clnp_network.specs.Run.{Entry}
-use Rattle.clnp_network.specs.Safe.{ReportsStand}
+use Rattle.clnp_machine.specs.ClnpNetwork.LabelledNetwork.{LabelledNetwork}
+use Rattle.clnp_machine.specs.ClnpNetwork.Run.{Entry}
+use Rattle.clnp_machine.specs.ClnpNetwork.Safe.{ReportsStand}
 use Rattle.clnp_safety.specs.Growth.{IsFront}
 use Rattle.clnp_safety.specs.Invariant.{BufferIsSound, Carries, IsMadeOn, IsPending, SystemIsSound, UnitsAreSound, WorldIsSound}
 use Rattle.clnp_safety.specs.StepLaws.{StepLaws}

@@ -5,8 +5,8 @@ use Rattle.std.specs.Prelude.{slice_get, Option, None, Some}
 use Rattle.std.specs.List.{AllByRecursion}
 use Rattle.std.proofs.lemmas.List.Elements.{Contains-append_right}
 use Rattle.hex.specs.Hex.{IsBytes}
-use Rattle.clnp_machine.specs.PduHeader.declared.kind.Kind.{Kind}
-use Rattle.clnp_machine.specs.PduHeader.declared.kind.Kind.TheVariants.{Dt, Erq, Erp}
+use Rattle.clnp_machine.specs.Pdus.declared.pdu_header.kind.Kind.{Kind}
+use Rattle.clnp_machine.specs.Pdus.declared.pdu_header.kind.Kind.TheVariants.{Dt, Erq, Erp}
 use Rattle.clnp_machine.specs.ClnpPlan.Configuration.{SystemConfiguration}
 use Rattle.clnp_machine.specs.ClnpPlan.Journal.{Line, Noted}
 use Rattle.clnp_machine.specs.ClnpPlan.declared.ask.Ask.{Ask}
@@ -14,17 +14,17 @@ use Rattle.clnp_machine.specs.ClnpPlan.declared.config.Role.{Role}
 use Rattle.clnp_machine.specs.ClnpPlan.declared.config.Role.TheVariants.{Host, Router}
 use Rattle.clnp_machine.specs.ClnpPlan.declared.note.Note.{Note}
 use Rattle.clnp_machine.specs.ClnpPlan.declared.note.Note.TheVariants.{Sent}
-use Rattle.clnp_network.specs.ScenarioPlan.Plan.{Plan, IsFit}
-use Rattle.clnp_network.specs.ScenarioPlan.declared.event.Move.{Move}
+use Rattle.clnp_machine.specs.ScenarioPlan.Plan.{Plan, IsFit}
+use Rattle.clnp_machine.specs.ClnpPlan.declared.scenario_plan.event.Move.{Move}
 use Rattle.clnp_machine.specs.Unit.{DataUnit, DeclaredAt}
 use Rattle.clnp_machine.specs.System.{SystemState, Input, AsksToSend, AsksForEcho, Effect}
 use Rattle.clnp_machine.specs.Local.{echo_ask, make, makes, refusal, sent_note, unit_of, unless_refused}
 use Rattle.clnp_machine.specs.Step.{effect_of, step}
 use Rattle.clnp_machine.specs.EveryStep.{IsFair, IsFresh, IsMadeFor, IsNoRestart, NotesOnly, RestartsNothing, WasPendingOrMade, moment_after}
 use Rattle.clnp_machine.specs.Told.{NoteIsQuiet}
-use Rattle.clnp_network.specs.LabelledNetwork.{LabelledNetwork, Step, takes_effect, comes, comes_to, asks_role, asks_system, asks}
-use Rattle.clnp_network.specs.Run.{Entry}
-use Rattle.clnp_network.specs.Safe.{IsSend, NoRefusal, SaysNoRestart, SaysRequested}
+use Rattle.clnp_machine.specs.ClnpNetwork.LabelledNetwork.{LabelledNetwork, Step, takes_effect, comes, comes_to, asks_role, asks_system, asks}
+use Rattle.clnp_machine.specs.ClnpNetwork.Run.{Entry}
+use Rattle.clnp_machine.specs.ClnpNetwork.Safe.{IsSend, NoRefusal, SaysNoRestart, SaysRequested}
 use Rattle.clnp_safety.specs.Invariant.{IsMadeOn, IsPending, SystemStands, UnitIsSound, UnitsAreSound, WorldIsSound}
 use Rattle.clnp_safety.specs.StepLaws.{StepLaws}
 use Rattle.clnp_safety.proofs.Past.{pending_later, requested_last, sent_last, units_later}

@@ -7,7 +7,7 @@ use Rattle.clnp_machine.specs.Attachment.{IsAttached}
 use Rattle.clnp_machine.specs.Change.{PortIsAt, PortTakes, RouteIsGone, RouteIsSet}
 use Rattle.clnp_machine.specs.System.{SystemState, Input, IsChanged}
 use Rattle.clnp_machine.specs.EveryStep.{IsFairChange}
-use Rattle.clnp_network.specs.LabelledNetwork.{LabelledNetwork}
+use Rattle.clnp_machine.specs.ClnpNetwork.LabelledNetwork.{LabelledNetwork}
 use Rattle.clnp_safety.proofs.EveryMove.{IsOfNow}
 use Rattle.clnp_safety.proofs.Events.{ChangesFormed}
 

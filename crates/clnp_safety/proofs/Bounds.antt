@@ -3,12 +3,12 @@ use Rattle.clnp_machine.proofs.ClnpBase.Lists.{AllByRecursion-any, AllByRecursio
 use Rattle.std.proofs.Common.{◌≡◌, ◌≤◌, ◌+◌, ℕ, inl, inr, Bool, true, false, List, [], ◌∷◌, length, arith}
 use Rattle.std.specs.Prelude.{if◌then◌else◌, is_none, slice_get, Option, None, Some}
 use Rattle.std.specs.List.{AllByRecursion}
-use Rattle.clnp_machine.specs.Nsap.declared.target.Target.{Target}
+use Rattle.clnp_machine.specs.Pdus.declared.nsap.target.Target.{Target}
 use Rattle.clnp_machine.specs.ClnpPlan.Configuration.{SystemConfiguration}
 use Rattle.clnp_machine.specs.ClnpPlan.declared.config.Limits.{Limits}
 use Rattle.clnp_machine.specs.ClnpPlan.declared.config.PortConfig.{PortConfig}
-use Rattle.clnp_network.specs.ScenarioPlan.Plan.{Plan}
-use Rattle.clnp_network.specs.ScenarioPlan.declared.event.Move.{Move}
+use Rattle.clnp_machine.specs.ScenarioPlan.Plan.{Plan}
+use Rattle.clnp_machine.specs.ClnpPlan.declared.scenario_plan.event.Move.{Move}
 use Rattle.clnp_machine.specs.PduHeader.Reading.{rest_of}
 use Rattle.clnp_machine.specs.EsisPdus.Reading as esis_reading
 use Rattle.clnp_machine.specs.EsisPdus.Rules.{why_refused}
@@ -17,9 +17,9 @@ use Rattle.clnp_machine.specs.Content.{Content, Labelled, Esis, Unlabelled, esis
 use Rattle.clnp_machine.specs.System.{SystemState, Input, FrameComes, Output, Transmits, SendsEsis, Notes, Effect}
 use Rattle.clnp_machine.specs.Step.{step}
 use Rattle.clnp_machine.specs.EveryStep.{GoesOnOf, IsWithinBudget, SendsRangesOrGoesOn}
-use Rattle.clnp_network.specs.LabelledNetwork.{LabelledNetwork, Copy, copy_from, copy_from_outside, frame_to, sends_frame, put_out, takes_effect, with_effect, states_from, first_world}
-use Rattle.clnp_network.specs.Run.{world_after}
-use Rattle.clnp_network.specs.Safe.{IsWithinBudgets, IsWithinLifetimes, MeetsLifetime}
+use Rattle.clnp_machine.specs.ClnpNetwork.LabelledNetwork.{LabelledNetwork, Copy, copy_from, copy_from_outside, frame_to, sends_frame, put_out, takes_effect, with_effect, states_from, first_world}
+use Rattle.clnp_machine.specs.ClnpNetwork.Run.{world_after}
+use Rattle.clnp_machine.specs.ClnpNetwork.Safe.{IsWithinBudgets, IsWithinLifetimes, MeetsLifetime}
 use Rattle.clnp_safety.specs.StepLaws.{StepLaws}
 use Rattle.clnp_safety.proofs.Lines.{AnyLine, any_line_changes, any_line_is_fine}
 use Rattle.clnp_safety.proofs.Steps.{Keeps, keeps-put_all_out, with_outside}

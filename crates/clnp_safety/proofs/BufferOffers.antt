@@ -5,16 +5,16 @@ use Rattle.std.specs.Prelude.{◌==◌, ◌&&◌}
 use Rattle.std.specs.List.{AllByRecursion, Contains}
 use Rattle.std.proofs.lemmas.Bool.{and_from, eq-eqb}
 use Rattle.std.proofs.lemmas.List.Elements.{All-contains, All-from_recursion}
-use Rattle.clnp_network.specs.ScenarioPlan.Plan.{IsFit, Plan}
+use Rattle.clnp_machine.specs.ScenarioPlan.Plan.{IsFit, Plan}
 use Rattle.clnp_machine.specs.PduHeader.Spelling.{type_code}
-use Rattle.clnp_machine.specs.Reassembly.declared.segment.Shape.{Shape}
-use Rattle.clnp_machine.specs.Reassembly.declared.table.TableLimits.{TableLimits}
+use Rattle.clnp_machine.specs.SystemTables.declared.reassembly.segment.Shape.{Shape}
+use Rattle.clnp_machine.specs.SystemTables.declared.reassembly.table.TableLimits.{TableLimits}
 use Rattle.clnp_machine.specs.Reassembly.Arrival.{same_key, same_shape}
 use Rattle.clnp_machine.specs.Reassembly.Buffer.{Buffer, buffer_of, clashes, opened_by}
 use Rattle.clnp_machine.specs.Unit.{DataUnit, DeclaredAt, IsCarriable, Packet}
 use Rattle.clnp_machine.specs.Local.{header_size, identifier_in, offered}
 use Rattle.clnp_machine.specs.EveryStep.{IsRangeOf}
-use Rattle.clnp_network.specs.Run.{Entry}
+use Rattle.clnp_machine.specs.ClnpNetwork.Run.{Entry}
 use Rattle.clnp_safety.specs.Invariant.{BufferIsSound, IsOfUnit, Owns, UnitIsSound, UnitsAreSound}
 use Rattle.clnp_safety.specs.StepLaws.{StepLaws}
 use Rattle.clnp_safety.proofs.Units.{different_makers, same_unit}

@@ -8,7 +8,7 @@ use Rattle.std.specs.List.{AllByRecursion}
 use Rattle.std.proofs.lemmas.List.{length-map}
 use Rattle.hex.specs.Hex.{IsBytes}
 use Rattle.clnp_machine.specs.Nsap.Address.{IsAddress}
-use Rattle.clnp_machine.specs.Nsap.declared.target.Target.{Target}
+use Rattle.clnp_machine.specs.Pdus.declared.nsap.target.Target.{Target}
 use Rattle.clnp_machine.specs.ClnpOptions.Edits.{HaveOneForm}
 use Rattle.clnp_machine.specs.PduHeader.Reading.{rest_of}
 use Rattle.clnp_machine.specs.EsisPdus.Grammar.{IsPdu}
@@ -16,19 +16,19 @@ use Rattle.clnp_machine.specs.EsisPdus.Reading as esis_reading
 use Rattle.clnp_machine.specs.EsisPdus.Rules.{why_refused}
 use Rattle.clnp_machine.specs.ClnpPlan.Configuration.{IsWithin, SystemConfiguration}
 use Rattle.clnp_machine.specs.ClnpPlan.declared.config.PortConfig.{PortConfig}
-use Rattle.clnp_network.specs.ScenarioPlan.Plan.{IsFit, Plan, Subnetwork}
-use Rattle.clnp_network.specs.ScenarioPlan.declared.event.Event.{Event}
-use Rattle.clnp_network.specs.ScenarioPlan.declared.event.Event.TheVariants.{Send, Echo, Inject, Mtu, Route, Unroute, Port}
-use Rattle.clnp_network.specs.ScenarioPlan.declared.event.Move.{Move}
+use Rattle.clnp_machine.specs.ScenarioPlan.Plan.{IsFit, Plan, Subnetwork}
+use Rattle.clnp_machine.specs.ClnpPlan.declared.scenario_plan.event.Event.{Event}
+use Rattle.clnp_machine.specs.ClnpPlan.declared.scenario_plan.event.Event.TheVariants.{Send, Echo, Inject, Mtu, Route, Unroute, Port}
+use Rattle.clnp_machine.specs.ClnpPlan.declared.scenario_plan.event.Move.{Move}
 use Rattle.clnp_machine.specs.Unit.{DataUnit, Maker, DeclaredAt, Outside, IsCarriable, Packet}
 use Rattle.clnp_machine.specs.Content.{Content, IsCarried, Labelled, Esis, Unlabelled, esis_value_in, is_accepted, packet_from_outside, value_in}
 use Rattle.clnp_machine.specs.Change.{PortTakes}
 use Rattle.clnp_machine.specs.System.{SystemState, Input, FrameComes, IsChanged, Output, Transmits, SendsEsis, Notes, Effect}
 use Rattle.clnp_machine.specs.Step.{step}
 use Rattle.clnp_machine.specs.EveryStep.{GoesOnOf, IsFair, IsRangeOf, KeepsAsOffered, KnowsAddresses, SendsCarriable, SendsEsisPdus, SendsRangesOrGoesOn}
-use Rattle.clnp_network.specs.LabelledNetwork.{LabelledNetwork, Copy, copy_from, copy_from_outside, frame_to, sends_frame, put_out, takes_effect, with_effect, first_world}
-use Rattle.clnp_network.specs.Run.{world_after}
-use Rattle.clnp_network.specs.Safe.{KeepsHeader, KeepsHeaders, RangeIn}
+use Rattle.clnp_machine.specs.ClnpNetwork.LabelledNetwork.{LabelledNetwork, Copy, copy_from, copy_from_outside, frame_to, sends_frame, put_out, takes_effect, with_effect, first_world}
+use Rattle.clnp_machine.specs.ClnpNetwork.Run.{world_after}
+use Rattle.clnp_machine.specs.ClnpNetwork.Safe.{KeepsHeader, KeepsHeaders, RangeIn}
 use Rattle.clnp_safety.specs.Outside.{CarriesRangesOrOutside, IsMadeBy, OutsideOrRange, PduIsUnbroken, PdusAreUnbroken}
 use Rattle.clnp_safety.specs.Attached.{AreItsMtus, HasItsPorts, IsAttachedThroughout}
 use Rattle.clnp_safety.specs.StepLaws.{StepLaws}

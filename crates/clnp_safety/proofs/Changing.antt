@@ -7,16 +7,16 @@ use Rattle.clnp_machine.proofs.ClnpBase.ListSteps.{all_set}
 use Rattle.clnp_machine.specs.Nsap.Address.{IsAddress}
 use Rattle.clnp_machine.specs.ClnpPlan.Configuration.{IsAddressedRoute, IsWithin}
 use Rattle.clnp_machine.specs.ClnpPlan.Journal.{Line}
-use Rattle.clnp_machine.specs.Forwarding.declared.route.Route.{Route}
-use Rattle.clnp_network.specs.ScenarioPlan.Plan.{IsFit, Plan}
-use Rattle.clnp_network.specs.ScenarioPlan.declared.event.Move.{Move}
+use Rattle.clnp_machine.specs.SystemTables.declared.forwarding.route.Route.{Route}
+use Rattle.clnp_machine.specs.ScenarioPlan.Plan.{IsFit, Plan}
+use Rattle.clnp_machine.specs.ClnpPlan.declared.scenario_plan.event.Move.{Move}
 use Rattle.clnp_machine.specs.Change.{Change, PortIsAt, PortTakes, RouteIsGone, RouteIsSet}
 use Rattle.clnp_machine.specs.Unit.{DataUnit}
 use Rattle.clnp_machine.specs.System.{SystemState, IsChanged}
 use Rattle.clnp_machine.specs.Step.{as_changed, step}
 use Rattle.clnp_machine.specs.EveryStep.{IsFairChange}
-use Rattle.clnp_network.specs.LabelledNetwork.{LabelledNetwork, comes, moved, moves_port, removes_route, resizes, sets_route}
-use Rattle.clnp_network.specs.Run.{Entry}
+use Rattle.clnp_machine.specs.ClnpNetwork.LabelledNetwork.{LabelledNetwork, comes, moved, moves_port, removes_route, resizes, sets_route}
+use Rattle.clnp_machine.specs.ClnpNetwork.Run.{Entry}
 use Rattle.clnp_safety.specs.Invariant.{EachRests, SystemIsSound, WorldIsSound}
 use Rattle.clnp_safety.specs.StepLaws.{StepLaws}
 use Rattle.clnp_safety.proofs.Attaching.{is_fair_change}

@@ -6,23 +6,23 @@ use Rattle.std.specs.Prelude.{max, option_map, replicate, slice_get, slice_set}
 use Rattle.std.specs.List.{AllByRecursion, range_with_len}
 use Rattle.std.proofs.lemmas.List.{length-map}
 use Rattle.std.proofs.lemmas.Option.{slice_get-map}
-use Rattle.clnp_network.specs.ScenarioPlan.Plan.{IsFit, IsOfVersion1, Plan, Subnetwork, moves_from, moves_of, octets_of}
-use Rattle.clnp_network.specs.ScenarioPlan.Standing.{AreTogether, EachMayCome, MayCome, Standing, changed_at, first_clocks, standing_after, standing_of}
-use Rattle.clnp_network.specs.ScenarioPlan.declared.event.Event.{Event}
-use Rattle.clnp_network.specs.ScenarioPlan.declared.event.Event.TheVariants as event
-use Rattle.clnp_network.specs.ScenarioPlan.declared.event.Event.TheVariants.{Send, Echo, Deliver, Settle, Lose, Tick, Restart, Congest, Inject, Mtu, Route, Unroute, Port}
-use Rattle.clnp_network.specs.ScenarioPlan.declared.event.Move.{Move}
-use Rattle.clnp_network.specs.ScenarioPlan.declared.event.Move.TheVariants.{One, SettleOne, LoseOne, TickOne, TickSystem}
+use Rattle.clnp_machine.specs.ScenarioPlan.Plan.{IsFit, IsOfVersion1, Plan, Subnetwork, moves_from, moves_of, octets_of}
+use Rattle.clnp_machine.specs.ScenarioPlan.Standing.{AreTogether, EachMayCome, MayCome, Standing, changed_at, first_clocks, standing_after, standing_of}
+use Rattle.clnp_machine.specs.ClnpPlan.declared.scenario_plan.event.Event.{Event}
+use Rattle.clnp_machine.specs.ClnpPlan.declared.scenario_plan.event.Event.TheVariants as event
+use Rattle.clnp_machine.specs.ClnpPlan.declared.scenario_plan.event.Event.TheVariants.{Send, Echo, Deliver, Settle, Lose, Tick, Restart, Congest, Inject, Mtu, Route, Unroute, Port}
+use Rattle.clnp_machine.specs.ClnpPlan.declared.scenario_plan.event.Move.{Move}
+use Rattle.clnp_machine.specs.ClnpPlan.declared.scenario_plan.event.Move.TheVariants.{One, SettleOne, LoseOne, TickOne, TickSystem}
 use Rattle.clnp_machine.specs.ClnpPlan.Configuration.{SystemConfiguration}
 use Rattle.clnp_machine.specs.ClnpPlan.declared.config.Limits.{Limits}
 use Rattle.clnp_machine.specs.Change.{PortIsAt, PortTakes, RouteIsGone, RouteIsSet}
 use Rattle.clnp_machine.specs.System.{SystemState, Input, AsksToSend, AsksForEcho, MomentComes, IsRestarted, IsCongested, IsChanged, Output, Transmits, SendsEsis, Notes, Effect}
 use Rattle.clnp_machine.specs.Step.{step}
 use Rattle.clnp_machine.specs.EveryStep.{moment_after}
-use Rattle.clnp_network.specs.LabelledNetwork.{LabelledNetwork, Copy, Numbered, addressees_from, after, comes, comes_to, event_happens, first_world, frame_to, goes_on, lose_copy, moved, put_out, settle_copy, states_from, takes_effect, tick_alone, tick_each, with_effect}
-use Rattle.clnp_network.specs.Clocks.{AreCurrent, NoneIsAhead, StayTogether, StaysTogether, TickTogether, TicksForAll, clock_after, clock_with, clocks_after, clocks_of}
-use Rattle.clnp_network.specs.Run.{moves_made, moves_of_plan, world_after}
-use Rattle.clnp_network.proofs.Sweeps.{change_at, sweep, sweep_all}
+use Rattle.clnp_machine.specs.ClnpNetwork.LabelledNetwork.{LabelledNetwork, Copy, Numbered, addressees_from, after, comes, comes_to, event_happens, first_world, frame_to, goes_on, lose_copy, moved, put_out, settle_copy, states_from, takes_effect, tick_alone, tick_each, with_effect}
+use Rattle.clnp_machine.specs.ClnpNetwork.Clocks.{AreCurrent, NoneIsAhead, StayTogether, StaysTogether, TickTogether, TicksForAll, clock_after, clock_with, clocks_after, clocks_of}
+use Rattle.clnp_machine.specs.ClnpNetwork.Run.{moves_made, moves_of_plan, world_after}
+use Rattle.clnp_machine.proofs.ClnpNetwork.Sweeps.{change_at, sweep, sweep_all}
 use Rattle.clnp_safety.specs.Growth.{IsFront}
 use Rattle.clnp_safety.specs.StepLaws.{StepLaws}
 use Rattle.clnp_safety.proofs.Together.{all_together, mapped_from, one_together, settles_stay, stay_front, ticking_alone_stays, ticks_stay, ticks_together, was_there}

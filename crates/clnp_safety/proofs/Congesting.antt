@@ -2,12 +2,12 @@
 use Rattle.std.proofs.Common.{◌≡◌, refl, ℕ, List, Bool}
 use Rattle.std.specs.Prelude.{slice_get, Option, None, Some}
 use Rattle.clnp_machine.specs.ClnpPlan.declared.note.Note.TheVariants.{Congest}
-use Rattle.clnp_network.specs.ScenarioPlan.Plan.{IsFit, Plan}
-use Rattle.clnp_network.specs.ScenarioPlan.declared.event.Move.{Move}
+use Rattle.clnp_machine.specs.ScenarioPlan.Plan.{IsFit, Plan}
+use Rattle.clnp_machine.specs.ClnpPlan.declared.scenario_plan.event.Move.{Move}
 use Rattle.clnp_machine.specs.System.{SystemState, Input, IsCongested}
 use Rattle.clnp_machine.specs.Step.{congest, step}
-use Rattle.clnp_network.specs.LabelledNetwork.{LabelledNetwork, comes, comes_to, takes_effect}
-use Rattle.clnp_network.specs.Run.{Entry}
+use Rattle.clnp_machine.specs.ClnpNetwork.LabelledNetwork.{LabelledNetwork, comes, comes_to, takes_effect}
+use Rattle.clnp_machine.specs.ClnpNetwork.Run.{Entry}
 use Rattle.clnp_safety.specs.Invariant.{SystemStands, WorldIsSound}
 use Rattle.clnp_safety.specs.StepLaws.{StepLaws}
 use Rattle.clnp_safety.proofs.Deeds.{like_is_sound, tells_soundly}

@@ -8,7 +8,7 @@ use Rattle.std.proofs.lemmas.List.Quantifiers.{all_pairs_push}
 use Rattle.std.proofs.lemmas.Option.{none-some}
 use Rattle.clnp_machine.specs.Identifiers.{Identifiers, after_use, next, not_drawn}
 use Rattle.clnp_machine.specs.Unit.{DataUnit, DeclaredAt}
-use Rattle.clnp_network.specs.Safe.{Rests}
+use Rattle.clnp_machine.specs.ClnpNetwork.Safe.{Rests}
 use Rattle.clnp_safety.specs.Invariant.{AreUsesUntil, EachRests, IsAccounted}
 use Rattle.clnp_safety.proofs.Uses.{accounted_later, made_long_ago, used_before, used_now, uses_after, uses_later}
 

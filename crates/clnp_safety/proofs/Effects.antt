@@ -4,9 +4,9 @@ use Rattle.clnp_machine.proofs.ClnpBase.Lists.{AllByRecursion-append, AllByRecur
 use Rattle.std.proofs.Common.{◌≡◌, ◌≢◌, ◌⊎◌, ◌∙◌, sym, ap, subst, ℕ, inl, inr, List, [], ◌∷◌, ◌++◌, length, map}
 use Rattle.std.specs.List.{AllByRecursion}
 use Rattle.std.proofs.lemmas.List.Elements.{Contains-append_cases}
-use Rattle.clnp_machine.specs.PduHeader.declared.kind.Kind.{Kind}
-use Rattle.clnp_machine.specs.PduHeader.declared.kind.Kind.TheVariants.{Er, Erq, Erp}
-use Rattle.clnp_network.specs.ScenarioPlan.Plan.{IsFit, Plan}
+use Rattle.clnp_machine.specs.Pdus.declared.pdu_header.kind.Kind.{Kind}
+use Rattle.clnp_machine.specs.Pdus.declared.pdu_header.kind.Kind.TheVariants.{Er, Erq, Erp}
+use Rattle.clnp_machine.specs.ScenarioPlan.Plan.{IsFit, Plan}
 use Rattle.clnp_machine.specs.ClnpPlan.Configuration.{SystemConfiguration}
 use Rattle.clnp_machine.specs.ClnpPlan.declared.note.Note.{Note}
 use Rattle.clnp_machine.specs.Reassembly.Arrival.{Arrival}
@@ -18,8 +18,8 @@ use Rattle.clnp_machine.specs.Local.{IsAsOffered}
 use Rattle.clnp_machine.specs.Step.{step}
 use Rattle.clnp_machine.specs.EveryStep.{GoesOnOf, IsAtHand, IsFair, IsFresh, IsMadeFor, IsNoRestart, IsRangeOf, KeepsAsOffered, NotesOnly, ReportsOn, RestartsNothing, SendsCarriable, SendsEsisPdus, SendsRangesOrGoesOn, WasPendingOrMade, moment_after, segments_in}
 use Rattle.clnp_machine.specs.Told.{SpellsPdus}
-use Rattle.clnp_network.specs.Run.{Entry}
-use Rattle.clnp_network.specs.LabelledNetwork.{LabelledNetwork, takes_effect}
+use Rattle.clnp_machine.specs.ClnpNetwork.Run.{Entry}
+use Rattle.clnp_machine.specs.ClnpNetwork.LabelledNetwork.{LabelledNetwork, takes_effect}
 use Rattle.clnp_safety.specs.Growth.{IsFront}
 use Rattle.clnp_safety.specs.Invariant.{BufferIsSound, EachRests, IsMadeOn, IsOfUnit, IsPending, SystemIsSound, SystemStands, UnitIsSound, UnitsAreSound}
 use Rattle.clnp_safety.specs.StepLaws.{StepLaws}

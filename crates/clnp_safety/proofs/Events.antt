@@ -6,8 +6,8 @@ use Rattle.clnp_machine.specs.Nsap.Address.{IsAddress}
 use Rattle.clnp_machine.specs.ClnpPlan.Configuration.{IsAddressedRoute, IsWithin}
 use Rattle.clnp_machine.specs.Change.{PortIsAt, PortTakes, RouteIsSet}
 use Rattle.clnp_machine.specs.System.{Input, IsChanged}
-use Rattle.clnp_network.specs.ScenarioPlan.Plan.{AsksFairly, AsksInForm, ChangesInForm, InjectsInForm, IsFit, IsSaid, Plan}
-use Rattle.clnp_network.specs.ScenarioPlan.declared.event.Event.{Event}
+use Rattle.clnp_machine.specs.ScenarioPlan.Plan.{AsksFairly, AsksInForm, ChangesInForm, InjectsInForm, IsFit, IsSaid, Plan}
+use Rattle.clnp_machine.specs.ClnpPlan.declared.scenario_plan.event.Event.{Event}
 
 pub record IsFitEvent (plan : Plan) (event : Event) : Type 0 where
   pub fair : AsksFairly event

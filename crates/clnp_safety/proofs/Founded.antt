@@ -6,17 +6,17 @@ use Rattle.std.proofs.lemmas.Bool.{and_parts}
 use Rattle.std.proofs.lemmas.List.Folds.{list_any-from_Any}
 use Rattle.std.proofs.lemmas.Option.{same_Some, slice_get_within}
 use Rattle.clnp_machine.proofs.ClnpBase.SameOctets.{same_from, same-itself}
-use Rattle.clnp_machine.specs.PduHeader.declared.kind.Kind.TheVariants.{Er, Erp}
+use Rattle.clnp_machine.specs.Pdus.declared.pdu_header.kind.Kind.TheVariants.{Er, Erp}
 use Rattle.clnp_machine.specs.MadePdus.Match.{echoes}
-use Rattle.clnp_network.specs.ScenarioPlan.Plan.{IsFit, Plan}
+use Rattle.clnp_machine.specs.ScenarioPlan.Plan.{IsFit, Plan}
 use Rattle.clnp_machine.specs.ClnpPlan.Configuration.{SystemConfiguration}
 use Rattle.clnp_machine.specs.Unit.{DataUnit, DeclaredAt}
 use Rattle.clnp_machine.specs.System.{SystemState}
 use Rattle.clnp_machine.specs.Local.{is_answer, is_own}
-use Rattle.clnp_network.specs.LabelledNetwork.{LabelledNetwork}
-use Rattle.clnp_network.specs.Run.{Entry}
+use Rattle.clnp_machine.specs.ClnpNetwork.LabelledNetwork.{LabelledNetwork}
+use Rattle.clnp_machine.specs.ClnpNetwork.Run.{Entry}
 use Rattle.clnp_machine.specs.EveryStep.{IsRangeOf}
-use Rattle.clnp_network.specs.Safe.{IsAnswered, IsHeaderOfOwn, ReportsOnCopy, ReportsStand, RequestedSinceRestart, StandsInCopy}
+use Rattle.clnp_machine.specs.ClnpNetwork.Safe.{IsAnswered, IsHeaderOfOwn, ReportsOnCopy, ReportsStand, RequestedSinceRestart, StandsInCopy}
 use Rattle.clnp_safety.specs.Invariant.{Carries, CopyIsSound, IsMadeOn, IsPending, Owns, UnitIsSound, WorldIsSound}
 use Rattle.clnp_safety.specs.StepLaws.{StepLaws}
 use Rattle.clnp_safety.proofs.BufferOffers.{unit_sound}

@@ -5,21 +5,21 @@ use Rattle.std.specs.Prelude.{max, slice_get, Option, None, Some}
 use Rattle.std.specs.List.{range_with_len}
 use Rattle.std.proofs.lemmas.Option.{slice_get_within}
 use Rattle.std.proofs.lemmas.List.{append-nil}
-use Rattle.clnp_machine.specs.Nsap.declared.target.Target.{Target}
+use Rattle.clnp_machine.specs.Pdus.declared.nsap.target.Target.{Target}
 use Rattle.clnp_machine.specs.ClnpPlan.declared.config.Limits.{Limits}
-use Rattle.clnp_network.specs.ScenarioPlan.Plan.{Plan, Subnetwork, octets_of}
-use Rattle.clnp_network.specs.ScenarioPlan.declared.event.Event.{Event}
-use Rattle.clnp_network.specs.ScenarioPlan.declared.event.Event.TheVariants.{Send, Echo, Deliver, Settle, Lose, Tick, Restart, Congest, Inject, Mtu, Route, Unroute, Port}
-use Rattle.clnp_network.specs.ScenarioPlan.declared.event.Event.TheVariants as event
-use Rattle.clnp_network.specs.ScenarioPlan.declared.event.Move.{Move}
-use Rattle.clnp_network.specs.ScenarioPlan.declared.event.Move.TheVariants.{One, SettleOne, LoseOne, TickOne, TickSystem}
+use Rattle.clnp_machine.specs.ScenarioPlan.Plan.{Plan, Subnetwork, octets_of}
+use Rattle.clnp_machine.specs.ClnpPlan.declared.scenario_plan.event.Event.{Event}
+use Rattle.clnp_machine.specs.ClnpPlan.declared.scenario_plan.event.Event.TheVariants.{Send, Echo, Deliver, Settle, Lose, Tick, Restart, Congest, Inject, Mtu, Route, Unroute, Port}
+use Rattle.clnp_machine.specs.ClnpPlan.declared.scenario_plan.event.Event.TheVariants as event
+use Rattle.clnp_machine.specs.ClnpPlan.declared.scenario_plan.event.Move.{Move}
+use Rattle.clnp_machine.specs.ClnpPlan.declared.scenario_plan.event.Move.TheVariants.{One, SettleOne, LoseOne, TickOne, TickSystem}
 use Rattle.clnp_machine.specs.Unit.{Maker, DeclaredAt}
 use Rattle.clnp_machine.specs.Content.{Content, Labelled, Esis}
 use Rattle.clnp_machine.specs.Change.{PortIsAt, PortTakes, RouteIsGone, RouteIsSet}
 use Rattle.clnp_machine.specs.System.{SystemState, Input, AsksToSend, AsksForEcho, MomentComes, IsRestarted, IsCongested, IsChanged, Output, Transmits, SendsEsis, Notes, Effect}
 use Rattle.clnp_machine.specs.Step.{step}
-use Rattle.clnp_network.specs.LabelledNetwork.{LabelledNetwork, Copy, copy_from, copy_from_outside, sends_frame, put_out, with_effect, takes_effect, comes, asks, frame_to, addressees_from, settle_copy, deliver, lose_copy, goes_on, tick_alone, tick_each, tick_one, injects, moved, moves_port, removes_route, resizes, sets_route, event_happens, after, first_world}
-use Rattle.clnp_network.specs.Run.{world_after}
+use Rattle.clnp_machine.specs.ClnpNetwork.LabelledNetwork.{LabelledNetwork, Copy, copy_from, copy_from_outside, sends_frame, put_out, with_effect, takes_effect, comes, asks, frame_to, addressees_from, settle_copy, deliver, lose_copy, goes_on, tick_alone, tick_each, tick_one, injects, moved, moves_port, removes_route, resizes, sets_route, event_happens, after, first_world}
+use Rattle.clnp_machine.specs.ClnpNetwork.Run.{world_after}
 use Rattle.clnp_safety.specs.Growth.{IsFront, IsWithinCopies}
 use Rattle.clnp_safety.proofs.Lines.{AnyLine, any_line_changes, any_line_is_fine}
 use Rattle.clnp_safety.proofs.Steps.{Keeps, keeps-nothing, keeps-followed_by, keeps-put_all_out, keeps-comes_to, keeps-asks, keeps-give_each, keeps-deliver, keeps-injects, keeps-moves_port, keeps-removes_route, keeps-resizes, keeps-sets_route}

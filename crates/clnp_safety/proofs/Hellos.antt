@@ -3,14 +3,14 @@ use Rattle.clnp_machine.proofs.ClnpBase.Lists.{AllByRecursion-append}
 use Rattle.std.proofs.Common.{◌≡◌, ◌∙◌, sym, ap, subst, ℕ, List, ◌++◌}
 use Rattle.std.specs.List.{AllByRecursion}
 use Rattle.std.proofs.lemmas.List.{append-nil}
-use Rattle.clnp_network.specs.ScenarioPlan.Plan.{Plan}
+use Rattle.clnp_machine.specs.ScenarioPlan.Plan.{Plan}
 use Rattle.clnp_machine.specs.Unit.{DataUnit}
 use Rattle.clnp_machine.specs.System.{SystemState, Effect, then_does}
 use Rattle.clnp_machine.specs.Local.{Deed}
 use Rattle.clnp_machine.specs.Step.{effect_of}
 use Rattle.clnp_machine.specs.EveryStep.{KnowsAddresses, NotesOnly, OnlyHellos}
-use Rattle.clnp_network.specs.LabelledNetwork.{LabelledNetwork}
-use Rattle.clnp_network.specs.Run.{Entry}
+use Rattle.clnp_machine.specs.ClnpNetwork.LabelledNetwork.{LabelledNetwork}
+use Rattle.clnp_machine.specs.ClnpNetwork.Run.{Entry}
 use Rattle.clnp_safety.specs.Invariant.{EachRests, SystemIsSound}
 use Rattle.clnp_safety.specs.StepLaws.{StepLaws}
 use Rattle.clnp_safety.proofs.Deeds.{DeedIsSound, IsHonest, MayDo, RepliesInOctets, like_is_sound, like_rest}

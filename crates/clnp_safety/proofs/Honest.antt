@@ -2,16 +2,16 @@
 use Rattle.std.specs.Prelude.{ℕ, List}
 use Rattle.clnp_machine.specs.Nsap.Address.{IsAddress}
 use Rattle.clnp_machine.specs.EsisPdus.Grammar.{IsPdu}
-use Rattle.clnp_network.specs.ScenarioPlan.Plan.{Plan}
+use Rattle.clnp_machine.specs.ScenarioPlan.Plan.{Plan}
 use Rattle.clnp_machine.specs.ClnpPlan.declared.note.Note.{Note}
 use Rattle.clnp_machine.specs.ClnpPlan.declared.note.Note.TheVariants.{Got, Report, Echoed, Interference}
 use Rattle.clnp_machine.specs.Unit.{DataUnit, IsCarriable}
 use Rattle.clnp_machine.specs.Content.{IsCarried}
 use Rattle.clnp_machine.specs.System.{Input, AsksToSend, AsksForEcho, FrameComes, Output, Transmits, SendsEsis, Notes}
 use Rattle.clnp_machine.specs.EveryStep.{IsNoRestart, IsRangeOf}
-use Rattle.clnp_network.specs.LabelledNetwork.{LabelledNetwork}
-use Rattle.clnp_network.specs.Run.{Entry}
-use Rattle.clnp_network.specs.Safe.{IsAnswered, IsHeaderOfOwn, WasSent}
+use Rattle.clnp_machine.specs.ClnpNetwork.LabelledNetwork.{LabelledNetwork}
+use Rattle.clnp_machine.specs.ClnpNetwork.Run.{Entry}
+use Rattle.clnp_machine.specs.ClnpNetwork.Safe.{IsAnswered, IsHeaderOfOwn, WasSent}
 use Rattle.clnp_safety.specs.Invariant.{Carries}
 
 -- nothing is asked of the system

@@ -3,22 +3,22 @@ use Rattle.clnp_machine.proofs.ClnpBase.Lists.{AllByRecursion-append, AllByRecur
 use Rattle.std.proofs.Common.{◌≡◌, refl, sym, subst, ℕ, ◌+◌, inl, inr, Bool, true, false, List, [], ◌∷◌, ◌++◌, length, Option, None, Some}
 use Rattle.std.specs.Prelude.{if◌then◌else◌, is_none, slice_get}
 use Rattle.std.specs.List.{AllByRecursion}
-use Rattle.clnp_machine.specs.Nsap.declared.target.Target.{Target}
+use Rattle.clnp_machine.specs.Pdus.declared.nsap.target.Target.{Target}
 use Rattle.clnp_machine.specs.PduHeader.Reading.{rest_of}
 use Rattle.clnp_machine.specs.EsisPdus.Reading as esis_reading
 use Rattle.clnp_machine.specs.EsisPdus.Rules.{why_refused}
 use Rattle.clnp_machine.specs.ClnpPlan.declared.config.PortConfig.{PortConfig}
-use Rattle.clnp_network.specs.ScenarioPlan.Plan.{Plan}
-use Rattle.clnp_network.specs.ScenarioPlan.declared.event.Move.{Move}
+use Rattle.clnp_machine.specs.ScenarioPlan.Plan.{Plan}
+use Rattle.clnp_machine.specs.ClnpPlan.declared.scenario_plan.event.Move.{Move}
 use Rattle.clnp_machine.specs.Unit.{Maker, DeclaredAt, Packet}
 use Rattle.clnp_machine.specs.Content.{Content, Labelled, Esis, Unlabelled, esis_value_in, is_accepted, packet_from_outside, value_in}
 use Rattle.clnp_machine.specs.System.{SystemState, Input, FrameComes, Output, Transmits, SendsEsis, Notes, Effect}
 use Rattle.clnp_machine.specs.Step.{step}
 use Rattle.clnp_machine.specs.EveryStep.{GoesOnOf}
 use Rattle.clnp_machine.specs.Ways.{IsFirstOrGoesOn}
-use Rattle.clnp_network.specs.LabelledNetwork.{LabelledNetwork, Copy, copy_from, copy_from_outside, first_world, put_out, sends_frame, takes_effect, with_effect}
-use Rattle.clnp_network.specs.Run.{world_after}
-use Rattle.clnp_network.specs.Safe.{HasItsHops, HopsCountCopies, WentOn}
+use Rattle.clnp_machine.specs.ClnpNetwork.LabelledNetwork.{LabelledNetwork, Copy, copy_from, copy_from_outside, first_world, put_out, sends_frame, takes_effect, with_effect}
+use Rattle.clnp_machine.specs.ClnpNetwork.Run.{world_after}
+use Rattle.clnp_machine.specs.ClnpNetwork.Safe.{HasItsHops, HopsCountCopies, WentOn}
 use Rattle.clnp_safety.specs.StepLaws.{StepLaws}
 use Rattle.clnp_safety.proofs.EveryMove.{AnyFrame, IsOfNow, asked_by_all, keeps-moves}
 use Rattle.clnp_safety.proofs.Grows.{effect_copies}

@@ -5,8 +5,8 @@ use Rattle.std.proofs.Common.{◌≡◌, sym, subst, ℕ, inl, inr, Bool, true, 
 use Rattle.std.specs.List.{AllByRecursion, find}
 use Rattle.std.proofs.lemmas.Bool.{cases_Bool}
 use Rattle.std.proofs.lemmas.Option.{none-some, same_Some}
-use Rattle.clnp_machine.specs.Reassembly.declared.segment.Key.{Key}
-use Rattle.clnp_machine.specs.Reassembly.declared.table.TableLimits.{TableLimits}
+use Rattle.clnp_machine.specs.SystemTables.declared.reassembly.segment.Key.{Key}
+use Rattle.clnp_machine.specs.SystemTables.declared.reassembly.table.TableLimits.{TableLimits}
 use Rattle.clnp_machine.specs.Reassembly.Arrival.{Arrival, same_key}
 use Rattle.clnp_machine.specs.Reassembly.Buffer.{Buffer, after, opened_by, with_kept, without}
 use Rattle.clnp_machine.specs.Unit.{Packet}

@@ -6,8 +6,8 @@ use Rattle.std.specs.List.{AllByRecursion, find}
 use Rattle.std.proofs.lemmas.Bool.{cases_Bool}
 use Rattle.clnp_machine.specs.ClnpOptions.Parameter.{Parameter}
 use Rattle.clnp_machine.specs.PduHeader.Rules.{is_reportable}
-use Rattle.clnp_machine.specs.PduHeader.declared.kind.Kind.{Kind}
-use Rattle.clnp_machine.specs.PduHeader.declared.kind.Kind.TheVariants.{Dt, Er, Erq, Erp}
+use Rattle.clnp_machine.specs.Pdus.declared.pdu_header.kind.Kind.{Kind}
+use Rattle.clnp_machine.specs.Pdus.declared.pdu_header.kind.Kind.TheVariants.{Dt, Er, Erq, Erp}
 use Rattle.clnp_machine.specs.ClnpPlan.Journal.{Line, Noted}
 use Rattle.clnp_machine.specs.ClnpPlan.declared.ask.Ask.{Ask}
 use Rattle.clnp_machine.specs.ClnpPlan.declared.note.Note.{Note}
@@ -15,7 +15,7 @@ use Rattle.clnp_machine.specs.ClnpPlan.declared.note.Note.TheVariants.{Alien, Re
 use Rattle.clnp_machine.specs.Reassembly.Arrival.{Arrival}
 use Rattle.clnp_machine.specs.Reassembly.Buffer as buffer
 use Rattle.clnp_machine.specs.Reassembly.Buffer.{Answer, Buffer}
-use Rattle.clnp_machine.specs.EsisTables.declared.fact.Neighbour.{Neighbour}
+use Rattle.clnp_machine.specs.SystemTables.declared.esis_tables.fact.Neighbour.{Neighbour}
 use Rattle.clnp_machine.specs.Unit.{DataUnit, Packet, value_of}
 use Rattle.clnp_machine.specs.Content.{Content, Labelled, Esis, Unlabelled, frame_of}
 use Rattle.clnp_machine.specs.System.{SystemState, Input, AsksToSend, AsksForEcho, FrameComes, MomentComes, IsRestarted, IsCongested, IsChanged, Transmits, Effect, table_limits, then_does}
@@ -27,11 +27,11 @@ use Rattle.clnp_machine.specs.EveryStep.{NotesOnly, OnlyHellos}
 use Rattle.clnp_machine.specs.Told.{IsRefusal, NoteIsQuiet, SpellsPdus, TellsOnly}
 use Rattle.clnp_machine.proofs.Hellos.{only_then}
 use Rattle.clnp_machine.proofs.Passing.{packet_does, redirects_are}
-use Rattle.clnp_network.specs.ScenarioPlan.Plan.{IsClosed, IsFit, Plan}
-use Rattle.clnp_network.specs.ScenarioPlan.declared.event.Move.{Move}
-use Rattle.clnp_network.specs.LabelledNetwork.{first_world}
-use Rattle.clnp_network.specs.Run.{Entry, entries_of}
-use Rattle.clnp_network.specs.Safe.{NoneIsAlien}
+use Rattle.clnp_machine.specs.ScenarioPlan.Plan.{IsClosed, IsFit, Plan}
+use Rattle.clnp_machine.specs.ClnpPlan.declared.scenario_plan.event.Move.{Move}
+use Rattle.clnp_machine.specs.ClnpNetwork.LabelledNetwork.{first_world}
+use Rattle.clnp_machine.specs.ClnpNetwork.Run.{Entry, entries_of}
+use Rattle.clnp_machine.specs.ClnpNetwork.Safe.{NoneIsAlien}
 use Rattle.clnp_safety.specs.StepLaws.{StepLaws}
 use Rattle.clnp_safety.proofs.Lines.{LineIs}
 use Rattle.clnp_safety.proofs.Standing.{first_stands, moves_note}

@@ -4,10 +4,10 @@ use Rattle.std.proofs.Common.{◌≡◌, ℕ, List, [], ◌∷◌, inl, inr, sub
 use Rattle.clnp_machine.specs.ClnpPlan.Journal.{Line, Noted}
 use Rattle.clnp_machine.specs.ClnpPlan.declared.note.Note.{Note}
 use Rattle.clnp_machine.specs.ClnpPlan.declared.note.Note.TheVariants.{Refused, Got, Report, Echoed, Interference, Restart}
-use Rattle.clnp_network.specs.ScenarioPlan.Plan.{Plan}
-use Rattle.clnp_network.specs.LabelledNetwork.{LabelledNetwork}
-use Rattle.clnp_network.specs.Run.{Entry}
-use Rattle.clnp_network.specs.Safe.{HandsUp, IsFounded, NoRefusal, NoInterference, SaysNoRestart, WasSent}
+use Rattle.clnp_machine.specs.ScenarioPlan.Plan.{Plan}
+use Rattle.clnp_machine.specs.ClnpNetwork.LabelledNetwork.{LabelledNetwork}
+use Rattle.clnp_machine.specs.ClnpNetwork.Run.{Entry}
+use Rattle.clnp_machine.specs.ClnpNetwork.Safe.{HandsUp, IsFounded, NoRefusal, NoInterference, SaysNoRestart, WasSent}
 use Rattle.std.specs.List.{AllByRecursion}
 use Rattle.clnp_machine.specs.EveryStep.{IsNoRestart}
 use Rattle.clnp_machine.specs.Told.{NoteIsQuiet}

@@ -1,11 +1,11 @@
 -- What becomes of texts of version 1 in version 2.
 use Rattle.std.proofs.Common.{◌≡◌, ℕ, List, Result, Ok, Err, IfOk, ap}
-use Rattle.clnp_network.specs.ScenarioPlan.Migrated.{migrated}
-use Rattle.clnp_network.specs.ScenarioPlan.Plan.{Plan}
-use Rattle.scenario_writing.specs.Canonical as canonical
-use Rattle.scenario_writing.specs.Migration.{migration_of}
-use Rattle.scenario_writing.specs.Scenario.Grammar.{BadLine, plan_of_version_1}
-use Rattle.scenario_writing.specs.Scenario.Words.{◌>>=◌}
+use Rattle.clnp_machine.specs.ScenarioPlan.Migrated.{migrated}
+use Rattle.clnp_machine.specs.ScenarioPlan.Plan.{Plan}
+use Rattle.scenario.specs.ScenarioWriting.Canonical as canonical
+use Rattle.scenario.specs.ScenarioWriting.Migration.{migration_of}
+use Rattle.scenario.specs.Grammar.{BadLine, plan_of_version_1}
+use Rattle.scenario.specs.Words.{◌>>=◌}
 use Rattle.clnp_safety.specs.Migrated.{IsMigrated}
 
 -- what is so of each plan that a text says

@@ -4,17 +4,17 @@ use Rattle.std.proofs.Common.{◌≡◌, ◌⊎◌, ℕ, inl, inr, List, [], ◌
 use Rattle.std.specs.Prelude.{slice_get, Some}
 use Rattle.std.specs.List.{AllByRecursion}
 use Rattle.std.proofs.lemmas.List.{append-nil}
-use Rattle.clnp_network.specs.ScenarioPlan.Plan.{Plan}
-use Rattle.clnp_network.specs.ScenarioPlan.Standing.{AreTogether}
-use Rattle.clnp_network.specs.ScenarioPlan.declared.event.Move.{Move}
+use Rattle.clnp_machine.specs.ScenarioPlan.Plan.{Plan}
+use Rattle.clnp_machine.specs.ScenarioPlan.Standing.{AreTogether}
+use Rattle.clnp_machine.specs.ClnpPlan.declared.scenario_plan.event.Move.{Move}
 use Rattle.clnp_machine.specs.ClnpPlan.Configuration.{IsWithin}
 use Rattle.clnp_machine.specs.Unit.{DataUnit}
 use Rattle.clnp_machine.specs.System.{SystemState}
 use Rattle.clnp_machine.specs.EveryStep.{IsNoRestart}
-use Rattle.clnp_network.specs.LabelledNetwork.{LabelledNetwork, Step, nothing}
-use Rattle.clnp_network.specs.Run.{Entry}
-use Rattle.clnp_network.specs.Clocks.{clocks_of}
-use Rattle.clnp_network.specs.Safe.{SaysNoRestart}
+use Rattle.clnp_machine.specs.ClnpNetwork.LabelledNetwork.{LabelledNetwork, Step, nothing}
+use Rattle.clnp_machine.specs.ClnpNetwork.Run.{Entry}
+use Rattle.clnp_machine.specs.ClnpNetwork.Clocks.{clocks_of}
+use Rattle.clnp_machine.specs.ClnpNetwork.Safe.{SaysNoRestart}
 use Rattle.clnp_safety.specs.Invariant.{CopyIsSound, IsPending, SystemStands, UnitsAreSound, SystemsAreSound, WorldIsSound}
 use Rattle.clnp_safety.proofs.Past.{pending_later, units_later}
 use Rattle.clnp_safety.proofs.Lines.{LineIs, lines_are, lines_say_no_restart}

@@ -5,7 +5,7 @@ use Rattle.std.specs.Prelude.{◌==◌, max, nat_lt, slice_get, slice_set}
 use Rattle.std.specs.List.{AllByRecursion, list_any, range_with_len}
 use Rattle.std.proofs.lemmas.Bool.{cases_Bool}
 use Rattle.std.proofs.lemmas.Option.{same_Some}
-use Rattle.clnp_machine.specs.Nsap.declared.target.Target.{Target}
+use Rattle.clnp_machine.specs.Pdus.declared.nsap.target.Target.{Target}
 use Rattle.clnp_machine.specs.ClnpPlan.Configuration.{SystemConfiguration}
 use Rattle.clnp_machine.specs.ClnpPlan.Journal.{Line, Noted, Transmitted, Void, Late, Resized}
 use Rattle.clnp_machine.specs.ClnpPlan.declared.config.Limits.{Limits}
@@ -13,15 +13,15 @@ use Rattle.clnp_machine.specs.ClnpPlan.declared.config.PortConfig.{PortConfig}
 use Rattle.clnp_machine.specs.ClnpPlan.declared.note.Note.{Note}
 use Rattle.clnp_machine.specs.ClnpPlan.declared.note.Note.TheVariants as note
 use Rattle.clnp_machine.specs.Forwarding.Distinct.{has_prefix}
-use Rattle.clnp_machine.specs.Forwarding.declared.route.Route as forwarding
+use Rattle.clnp_machine.specs.SystemTables.declared.forwarding.route.Route as forwarding
 use Rattle.clnp_machine.specs.ClnpPlan.declared.config.Role.{Role}
 use Rattle.clnp_machine.specs.ClnpPlan.declared.config.Role.TheVariants.{Host, Router}
-use Rattle.clnp_network.specs.ScenarioPlan.Plan.{Plan, Subnetwork, octets_of}
-use Rattle.clnp_network.specs.ScenarioPlan.declared.event.Event.{Event}
-use Rattle.clnp_network.specs.ScenarioPlan.declared.event.Event.TheVariants.{Send, Echo, Deliver, Settle, Lose, Tick, Restart, Congest, Inject, Mtu, Route, Unroute, Port}
-use Rattle.clnp_network.specs.ScenarioPlan.declared.event.Event.TheVariants as event
-use Rattle.clnp_network.specs.ScenarioPlan.declared.event.Move.{Move}
-use Rattle.clnp_network.specs.ScenarioPlan.declared.event.Move.TheVariants.{One, SettleOne, LoseOne, TickOne, TickSystem}
+use Rattle.clnp_machine.specs.ScenarioPlan.Plan.{Plan, Subnetwork, octets_of}
+use Rattle.clnp_machine.specs.ClnpPlan.declared.scenario_plan.event.Event.{Event}
+use Rattle.clnp_machine.specs.ClnpPlan.declared.scenario_plan.event.Event.TheVariants.{Send, Echo, Deliver, Settle, Lose, Tick, Restart, Congest, Inject, Mtu, Route, Unroute, Port}
+use Rattle.clnp_machine.specs.ClnpPlan.declared.scenario_plan.event.Event.TheVariants as event
+use Rattle.clnp_machine.specs.ClnpPlan.declared.scenario_plan.event.Move.{Move}
+use Rattle.clnp_machine.specs.ClnpPlan.declared.scenario_plan.event.Move.TheVariants.{One, SettleOne, LoseOne, TickOne, TickSystem}
 use Rattle.clnp_machine.specs.Unit.{Maker, DeclaredAt}
 use Rattle.clnp_machine.specs.Content.{Content, Labelled, Esis, frame_of}
 use Rattle.clnp_machine.specs.Attachment.{Attachment}
@@ -29,7 +29,7 @@ use Rattle.clnp_machine.specs.Change.{Change, PortIsAt, PortTakes, RouteIsGone, 
 use Rattle.clnp_machine.specs.System.{SystemState, Input, AsksToSend, AsksForEcho, MomentComes, IsRestarted, IsCongested, IsChanged, Output, Transmits, SendsEsis, Notes, Effect}
 use Rattle.clnp_machine.specs.Ports.{ComesByPort, GoesByPort}
 use Rattle.clnp_machine.specs.Step.{step}
-use Rattle.clnp_network.specs.LabelledNetwork.{LabelledNetwork, Copy, Numbered, Step, addressees_from, after, asks_role, asks_system, comes, comes_to, copy_from, deliver_at, deliver_to, enters, event_happens, first_port, followed_by, for_nobody, frame_to, give, give_each, give_to, injects_on, is_addressee, is_late, lose_copy, nothing, put_all_out, put_out, sends_frame, settle_copy, takes_effect, goes_on, tick_alone, tick_each, with_effect, writes, tells_of, ports_of, moved, moves_port_to, moves_port_of, moves_port_on, sets_route_as, sets_route_of, removes_route_as, removes_route_of, resizes_port_of, resizes_port, resizes_ports, resizes_at, resizes_each, resizes_on}
+use Rattle.clnp_machine.specs.ClnpNetwork.LabelledNetwork.{LabelledNetwork, Copy, Numbered, Step, addressees_from, after, asks_role, asks_system, comes, comes_to, copy_from, deliver_at, deliver_to, enters, event_happens, first_port, followed_by, for_nobody, frame_to, give, give_each, give_to, injects_on, is_addressee, is_late, lose_copy, nothing, put_all_out, put_out, sends_frame, settle_copy, takes_effect, goes_on, tick_alone, tick_each, with_effect, writes, tells_of, ports_of, moved, moves_port_to, moves_port_of, moves_port_on, sets_route_as, sets_route_of, removes_route_as, removes_route_of, resizes_port_of, resizes_port, resizes_ports, resizes_at, resizes_each, resizes_on}
 use Rattle.clnp_safety.specs.Growth.{IsCopyAt, IsFront, TellsItsCopy}
 use Rattle.clnp_safety.specs.StepLaws.{StepLaws}
 use Rattle.clnp_machine.proofs.ClnpBase.Choices.{one_of}

@@ -5,9 +5,9 @@ use Rattle.std.specs.Prelude.{slice_get, Some}
 use Rattle.std.specs.List.{AllByRecursion}
 use Rattle.clnp_machine.specs.ClnpPlan.Configuration.{IsAddressed, IsSystem, IsWithin, SystemConfiguration}
 use Rattle.clnp_machine.specs.ClnpPlan.declared.config.Limits.{Limits}
-use Rattle.clnp_network.specs.ScenarioPlan.Plan.{IsFit, Plan, Subnetwork}
+use Rattle.clnp_machine.specs.ScenarioPlan.Plan.{IsFit, Plan, Subnetwork}
 use Rattle.clnp_machine.specs.System.{SystemState, first_state}
-use Rattle.clnp_network.specs.LabelledNetwork.{states_from, first_world}
+use Rattle.clnp_machine.specs.ClnpNetwork.LabelledNetwork.{states_from, first_world}
 use Rattle.clnp_safety.specs.Invariant.{SystemStands, WorldIsSound}
 use Rattle.clnp_safety.specs.StepLaws.{StepLaws}
 

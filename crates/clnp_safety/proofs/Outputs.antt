@@ -3,7 +3,7 @@ use Rattle.clnp_machine.proofs.ClnpBase.Lists.{AllByRecursion-append, AllByRecur
 use Rattle.std.proofs.Common.{◌≡◌, ◌≢◌, ℕ, List, [], ◌++◌, length, refl, ap, ◌∙◌, length-set}
 use Rattle.std.specs.Prelude.{slice_get, Option, None, Some}
 use Rattle.clnp_machine.specs.Nsap.Address.{IsAddress}
-use Rattle.clnp_machine.specs.Nsap.declared.target.Target.{Target}
+use Rattle.clnp_machine.specs.Pdus.declared.nsap.target.Target.{Target}
 use Rattle.clnp_machine.specs.ClnpPlan.Configuration.{IsWithin}
 use Rattle.clnp_machine.specs.ClnpPlan.declared.config.PortConfig.{PortConfig}
 use Rattle.clnp_machine.specs.ClnpPlan.declared.note.Note.{Note}
@@ -11,7 +11,7 @@ use Rattle.clnp_machine.specs.Unit.{DataUnit, Maker, DeclaredAt}
 use Rattle.clnp_machine.specs.Content.{Content, IsCarried, Labelled, Esis}
 use Rattle.clnp_machine.specs.System.{SystemState, Output, Transmits, SendsEsis, Notes, Effect}
 use Rattle.clnp_machine.specs.EveryStep.{IsRangeOf, NotesOnly}
-use Rattle.clnp_network.specs.LabelledNetwork.{LabelledNetwork, copy_from, sends_frame, put_out, with_effect, takes_effect}
+use Rattle.clnp_machine.specs.ClnpNetwork.LabelledNetwork.{LabelledNetwork, copy_from, sends_frame, put_out, with_effect, takes_effect}
 use Rattle.std.specs.List.{AllByRecursion}
 use Rattle.clnp_safety.specs.Invariant.{Carries, CopyIsSound, IsBornWithUnit}
 use Rattle.clnp_safety.specs.Outside.{IsMadeBy}

@@ -8,12 +8,12 @@ use Rattle.clnp_machine.specs.ClnpPlan.Configuration.{SystemConfiguration}
 use Rattle.clnp_machine.specs.ClnpPlan.Journal.{Line, Noted}
 use Rattle.clnp_machine.specs.ClnpPlan.declared.note.Note.{Note}
 use Rattle.clnp_machine.specs.ClnpPlan.declared.note.Note.TheVariants.{Got}
-use Rattle.clnp_network.specs.ScenarioPlan.Plan.{Plan}
-use Rattle.clnp_network.specs.ScenarioPlan.declared.event.Move.{Move}
+use Rattle.clnp_machine.specs.ScenarioPlan.Plan.{Plan}
+use Rattle.clnp_machine.specs.ClnpPlan.declared.scenario_plan.event.Move.{Move}
 use Rattle.clnp_machine.specs.System.{SystemState, Input, Output, Transmits, SendsEsis, Notes, Effect}
 use Rattle.clnp_machine.specs.Step.{step}
 use Rattle.clnp_machine.specs.EveryStep.{IsForOwn, NotesOnly}
-use Rattle.clnp_network.specs.LabelledNetwork.{LabelledNetwork, put_out, with_effect, takes_effect, after}
+use Rattle.clnp_machine.specs.ClnpNetwork.LabelledNetwork.{LabelledNetwork, put_out, with_effect, takes_effect, after}
 use Rattle.clnp_safety.specs.Owners.{IsByOwner}
 use Rattle.clnp_safety.specs.StepLaws.{StepLaws}
 use Rattle.clnp_safety.proofs.EveryMove.{AnyFrame, AnyInput, EachStepKeeps, IsOfNow, any_events, keeps-move}

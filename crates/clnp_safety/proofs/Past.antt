@@ -4,13 +4,13 @@ use Rattle.clnp_machine.proofs.ClnpBase.Lists.{AllByRecursion-implies, AllByRecu
 use Rattle.std.proofs.Common.{ℕ, List, [], ◌∷◌, ◌++◌, inl, inr, Contains}
 use Rattle.std.specs.List.{AllByRecursion}
 use Rattle.std.proofs.lemmas.List.Elements.{Contains-append_left}
-use Rattle.clnp_machine.specs.PduHeader.declared.kind.Kind.{Kind}
-use Rattle.clnp_machine.specs.PduHeader.declared.kind.Kind.TheVariants.{Dt, Er, Erq, Erp}
+use Rattle.clnp_machine.specs.Pdus.declared.pdu_header.kind.Kind.{Kind}
+use Rattle.clnp_machine.specs.Pdus.declared.pdu_header.kind.Kind.TheVariants.{Dt, Er, Erq, Erp}
 use Rattle.clnp_machine.specs.ClnpPlan.Journal.{Line}
-use Rattle.clnp_network.specs.ScenarioPlan.Plan.{Plan}
+use Rattle.clnp_machine.specs.ScenarioPlan.Plan.{Plan}
 use Rattle.clnp_machine.specs.Unit.{DataUnit}
-use Rattle.clnp_network.specs.Run.{Entry}
-use Rattle.clnp_network.specs.Safe.{IsSend, NoRefusal, RequestedSinceRestart, SaysNoRestart, SaysRequested, WasSent}
+use Rattle.clnp_machine.specs.ClnpNetwork.Run.{Entry}
+use Rattle.clnp_machine.specs.ClnpNetwork.Safe.{IsSend, NoRefusal, RequestedSinceRestart, SaysNoRestart, SaysRequested, WasSent}
 use Rattle.clnp_safety.specs.Invariant.{IsMadeOn, IsPending, UnitIsSound, UnitsAreSound}
 
 sent_before : (plan : Plan) (past more : List Entry) (from to octets : List ℕ) → WasSent plan past from to octets → WasSent plan (past ++ more) from to octets

@@ -9,8 +9,8 @@ use Rattle.clnp_machine.specs.Content.{Content}
 use Rattle.clnp_machine.specs.System.{SystemState, FrameComes, Output, Transmits, SendsEsis, Notes, Effect}
 use Rattle.clnp_machine.specs.Step.{step}
 use Rattle.clnp_machine.specs.EveryStep.{IsRedirectFor, KeepsNextHop, KeepsNextHops}
-use Rattle.clnp_network.specs.LabelledNetwork.{Numbered, LabelledNetwork, frame_to, give_to, is_late, put_out, takes_effect, with_effect}
-use Rattle.clnp_network.specs.Safe.{ChangesOneNextHop, RedirectsChangeOneNextHop}
+use Rattle.clnp_machine.specs.ClnpNetwork.LabelledNetwork.{Numbered, LabelledNetwork, frame_to, give_to, is_late, put_out, takes_effect, with_effect}
+use Rattle.clnp_machine.specs.ClnpNetwork.Safe.{ChangesOneNextHop, RedirectsChangeOneNextHop}
 use Rattle.clnp_safety.proofs.Lines.{AnyLine}
 use Rattle.clnp_safety.proofs.Steps.{Keeps, keeps-put_all_out}
 

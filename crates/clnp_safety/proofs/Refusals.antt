@@ -2,24 +2,24 @@
 use Rattle.clnp_machine.proofs.ClnpBase.Lists.{slice_set-same}
 use Rattle.std.proofs.Common.{◌≡◌, ℕ, List, [], ◌++◌, ◌∙◌, refl, ap}
 use Rattle.std.specs.Prelude.{slice_get, Option, None, Some}
-use Rattle.clnp_machine.specs.PduHeader.declared.kind.Kind.TheVariants.{Dt}
+use Rattle.clnp_machine.specs.Pdus.declared.pdu_header.kind.Kind.TheVariants.{Dt}
 use Rattle.clnp_machine.specs.ClnpPlan.declared.ask.Ask.{Ask}
 use Rattle.clnp_machine.specs.ClnpPlan.declared.config.Limits.{Limits}
 use Rattle.clnp_machine.specs.ClnpPlan.declared.config.Role.{Role}
 use Rattle.clnp_machine.specs.ClnpPlan.declared.config.Role.TheVariants.{Host, Router}
 use Rattle.clnp_machine.specs.ClnpPlan.declared.note.Note.TheVariants.{Refused}
-use Rattle.clnp_network.specs.ScenarioPlan.Plan.{Plan, Subnetwork, octets_of}
-use Rattle.clnp_network.specs.ScenarioPlan.declared.event.Event.{Event}
-use Rattle.clnp_network.specs.ScenarioPlan.declared.event.Event.TheVariants.{Send}
-use Rattle.clnp_network.specs.ScenarioPlan.declared.event.Move.{Move}
-use Rattle.clnp_network.specs.ScenarioPlan.declared.event.Move.TheVariants.{One}
+use Rattle.clnp_machine.specs.ScenarioPlan.Plan.{Plan, Subnetwork, octets_of}
+use Rattle.clnp_machine.specs.ClnpPlan.declared.scenario_plan.event.Event.{Event}
+use Rattle.clnp_machine.specs.ClnpPlan.declared.scenario_plan.event.Event.TheVariants.{Send}
+use Rattle.clnp_machine.specs.ClnpPlan.declared.scenario_plan.event.Move.{Move}
+use Rattle.clnp_machine.specs.ClnpPlan.declared.scenario_plan.event.Move.TheVariants.{One}
 use Rattle.clnp_machine.specs.Unit.{DataUnit}
 use Rattle.clnp_machine.specs.System.{SystemState, AsksToSend}
 use Rattle.clnp_machine.specs.Local.{refusal, unit_of, unless_refused}
 use Rattle.clnp_machine.specs.Step.{effect_of}
 use Rattle.std.proofs.lemmas.List.{append-nil}
-use Rattle.clnp_network.specs.LabelledNetwork.{LabelledNetwork, after, comes_to, asks_role, asks_system, takes_effect, event_happens}
-use Rattle.clnp_network.specs.Safe.{AsksFor, IsSend, NoRefusal}
+use Rattle.clnp_machine.specs.ClnpNetwork.LabelledNetwork.{LabelledNetwork, after, comes_to, asks_role, asks_system, takes_effect, event_happens}
+use Rattle.clnp_machine.specs.ClnpNetwork.Safe.{AsksFor, IsSend, NoRefusal}
 use Rattle.clnp_machine.specs.ClnpPlan.declared.note.Note.{Note}
 use Rattle.clnp_safety.specs.Refusal.{LeavesNothing}
 use Rattle.clnp_safety.specs.StepLaws.{StepLaws}

@@ -9,14 +9,14 @@ use Rattle.clnp_machine.specs.ClnpPlan.Configuration.{AreDistinct, SystemConfigu
 use Rattle.clnp_machine.specs.ClnpPlan.Journal.{Line, Noted}
 use Rattle.clnp_machine.specs.ClnpPlan.declared.note.Note.{Note}
 use Rattle.clnp_machine.specs.ClnpPlan.declared.note.Note.TheVariants as note
-use Rattle.clnp_network.specs.ScenarioPlan.Plan.{IsFit, Plan}
-use Rattle.clnp_network.specs.ScenarioPlan.declared.event.Move.{Move}
+use Rattle.clnp_machine.specs.ScenarioPlan.Plan.{IsFit, Plan}
+use Rattle.clnp_machine.specs.ClnpPlan.declared.scenario_plan.event.Move.{Move}
 use Rattle.clnp_machine.specs.Unit.{DataUnit}
 use Rattle.clnp_machine.specs.System.{SystemState, IsRestarted}
 use Rattle.clnp_machine.specs.Step.{restart, step}
-use Rattle.clnp_network.specs.LabelledNetwork.{LabelledNetwork, comes_to, takes_effect}
-use Rattle.clnp_network.specs.Run.{Entry}
-use Rattle.clnp_network.specs.Safe.{SaysNoRestart}
+use Rattle.clnp_machine.specs.ClnpNetwork.LabelledNetwork.{LabelledNetwork, comes_to, takes_effect}
+use Rattle.clnp_machine.specs.ClnpNetwork.Run.{Entry}
+use Rattle.clnp_machine.specs.ClnpNetwork.Safe.{SaysNoRestart}
 use Rattle.clnp_safety.specs.Invariant.{AreUsesUntil, EachRests, SystemIsSound, WorldIsSound}
 use Rattle.clnp_safety.specs.StepLaws.{StepLaws}
 use Rattle.clnp_safety.proofs.Effects.{AnySystem, IsSoundWith, StandsWith, step_keeps}

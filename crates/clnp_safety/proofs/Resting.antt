@@ -5,16 +5,16 @@ use Rattle.std.specs.Prelude.{slice_get}
 use Rattle.std.specs.List.{AllByRecursion}
 use Rattle.std.proofs.lemmas.List.{append-nil}
 use Rattle.std.proofs.lemmas.List.Elements.{Contains-append_cases}
-use Rattle.clnp_network.specs.ScenarioPlan.Plan.{Plan}
-use Rattle.clnp_network.specs.ScenarioPlan.declared.event.Move.{Move}
+use Rattle.clnp_machine.specs.ScenarioPlan.Plan.{Plan}
+use Rattle.clnp_machine.specs.ClnpPlan.declared.scenario_plan.event.Move.{Move}
 use Rattle.clnp_machine.specs.Identifiers.{Identifiers, restarted}
 use Rattle.clnp_machine.specs.Unit.{DataUnit, DeclaredAt}
 use Rattle.clnp_machine.specs.System.{SystemState, Input, MomentComes, IsRestarted, Output, Transmits, SendsEsis, Notes, Effect}
 use Rattle.clnp_machine.specs.Step.{step}
 use Rattle.clnp_machine.specs.EveryStep.{IsFresh, RestartsNothing, moment_after}
-use Rattle.clnp_network.specs.LabelledNetwork.{LabelledNetwork, put_out, takes_effect, with_effect, first_world}
-use Rattle.clnp_network.specs.Run.{world_after}
-use Rattle.clnp_network.specs.Safe.{IdentifiersRest}
+use Rattle.clnp_machine.specs.ClnpNetwork.LabelledNetwork.{LabelledNetwork, put_out, takes_effect, with_effect, first_world}
+use Rattle.clnp_machine.specs.ClnpNetwork.Run.{world_after}
+use Rattle.clnp_machine.specs.ClnpNetwork.Safe.{IdentifiersRest}
 use Rattle.clnp_safety.specs.Invariant.{EachRests}
 use Rattle.clnp_safety.specs.StepLaws.{StepLaws}
 use Rattle.clnp_safety.proofs.Drawing.{step_draws}

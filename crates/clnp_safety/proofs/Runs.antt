@@ -4,13 +4,13 @@ use Rattle.std.proofs.Common.{◌≡◌, ℕ, inl, inr, List, [], ◌∷◌, ◌
 use Rattle.std.specs.Prelude.{slice_get, Option, None, Some}
 use Rattle.std.specs.List.{AllByRecursion}
 use Rattle.clnp_machine.specs.ClnpPlan.Journal.{Line, Noted}
-use Rattle.clnp_network.specs.ScenarioPlan.Plan.{InjectsNothing, Plan, IsClosed, IsFit, octets_of}
-use Rattle.clnp_network.specs.ScenarioPlan.Standing.{AreTogether}
-use Rattle.clnp_network.specs.ScenarioPlan.declared.event.Event.{Event}
-use Rattle.clnp_network.specs.ScenarioPlan.declared.event.Event.TheVariants.{Send, Echo, Deliver, Settle, Lose, Tick, Restart, Congest, Inject, Mtu, Route, Unroute, Port}
-use Rattle.clnp_network.specs.ScenarioPlan.declared.event.Event.TheVariants as event
-use Rattle.clnp_network.specs.ScenarioPlan.declared.event.Move.{Move}
-use Rattle.clnp_network.specs.ScenarioPlan.declared.event.Move.TheVariants.{One, SettleOne, LoseOne, TickOne, TickSystem}
+use Rattle.clnp_machine.specs.ScenarioPlan.Plan.{InjectsNothing, Plan, IsClosed, IsFit, octets_of}
+use Rattle.clnp_machine.specs.ScenarioPlan.Standing.{AreTogether}
+use Rattle.clnp_machine.specs.ClnpPlan.declared.scenario_plan.event.Event.{Event}
+use Rattle.clnp_machine.specs.ClnpPlan.declared.scenario_plan.event.Event.TheVariants.{Send, Echo, Deliver, Settle, Lose, Tick, Restart, Congest, Inject, Mtu, Route, Unroute, Port}
+use Rattle.clnp_machine.specs.ClnpPlan.declared.scenario_plan.event.Event.TheVariants as event
+use Rattle.clnp_machine.specs.ClnpPlan.declared.scenario_plan.event.Move.{Move}
+use Rattle.clnp_machine.specs.ClnpPlan.declared.scenario_plan.event.Move.TheVariants.{One, SettleOne, LoseOne, TickOne, TickSystem}
 use Rattle.clnp_machine.specs.Unit.{DataUnit, Outside, Packet}
 use Rattle.clnp_machine.specs.Content.{Content, Labelled, Esis, Unlabelled}
 use Rattle.clnp_machine.specs.System.{SystemState}
@@ -19,10 +19,10 @@ use Rattle.clnp_machine.specs.Told.{NotesNoRule}
 use Rattle.clnp_machine.proofs.Gained.{each_kept}
 use Rattle.clnp_machine.specs.Reassembly.Arrival.{Arrival}
 use Rattle.clnp_machine.specs.Reassembly.Buffer.{Buffer}
-use Rattle.clnp_network.specs.LabelledNetwork.{LabelledNetwork, Copy, after, event_happens, deliver, settle_one, lose_one, tick_one, tick_system, first_world}
-use Rattle.clnp_network.specs.Clocks.{StayTogether, StaysTogether, clocks_after, clocks_of}
-use Rattle.clnp_network.specs.Run.{Entry, entries_of, moves_made, run, world_after}
-use Rattle.clnp_network.specs.Safe.{AsksFor, CameInCopy, CarriesRanges, EachIsFounded, EachWasSent, FramesAreUnbroken, HoldsOneUnit, HoldsUnitsApart, IsHonest, IsSegmentOf, IsSend, IsUnbroken, NoInterference, RangeIn, ReportsStand, StandsInCopy, TellsNoRule}
+use Rattle.clnp_machine.specs.ClnpNetwork.LabelledNetwork.{LabelledNetwork, Copy, after, event_happens, deliver, settle_one, lose_one, tick_one, tick_system, first_world}
+use Rattle.clnp_machine.specs.ClnpNetwork.Clocks.{StayTogether, StaysTogether, clocks_after, clocks_of}
+use Rattle.clnp_machine.specs.ClnpNetwork.Run.{Entry, entries_of, moves_made, run, world_after}
+use Rattle.clnp_machine.specs.ClnpNetwork.Safe.{AsksFor, CameInCopy, CarriesRanges, EachIsFounded, EachWasSent, FramesAreUnbroken, HoldsOneUnit, HoldsUnitsApart, IsHonest, IsSegmentOf, IsSend, IsUnbroken, NoInterference, RangeIn, ReportsStand, StandsInCopy, TellsNoRule}
 use Rattle.clnp_safety.specs.Invariant.{BufferIsSound, Carries, CopyIsSound, IsOfUnit, NetworkIsSound, WorldIsSound}
 use Rattle.clnp_safety.specs.Outside.{HasItsMaker, OutsideOrRange, PduIsUnbroken}
 use Rattle.clnp_safety.specs.StepLaws.{StepLaws}

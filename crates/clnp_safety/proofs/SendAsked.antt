@@ -2,13 +2,13 @@
 use Rattle.std.proofs.Common.{◌≡◌, ℕ, Bool, true, false, inl, inr, List, [], ◌∷◌, None, Contains, refl, ap, subst, bytes_eq}
 use Rattle.std.proofs.lemmas.List.Folds.{Any-from_list_any}
 use Rattle.clnp_machine.proofs.ClnpBase.SameOctets.{same_from}
-use Rattle.clnp_machine.specs.PduHeader.declared.kind.Kind.{Kind}
+use Rattle.clnp_machine.specs.Pdus.declared.pdu_header.kind.Kind.{Kind}
 use Rattle.clnp_machine.specs.ClnpPlan.declared.ask.Ask.{Ask}
 use Rattle.clnp_machine.specs.Identifiers.{not_drawn}
 use Rattle.clnp_machine.specs.Unit.{DataUnit, DeclaredAt}
 use Rattle.clnp_machine.specs.System.{SystemState}
 use Rattle.clnp_machine.specs.Local.{is_own, identifier_for, unit_of, not_drawn_note, identifier_refusal, refusal, with_use}
-use Rattle.clnp_network.specs.ScenarioPlan.Plan.{Plan}
+use Rattle.clnp_machine.specs.ScenarioPlan.Plan.{Plan}
 use Rattle.clnp_safety.specs.Invariant.{SystemIsSound}
 use Rattle.clnp_safety.specs.StepLaws.{StepLaws}
 use Rattle.clnp_safety.proofs.Draws.{Draws}

@@ -1,7 +1,7 @@
 -- What stays sound of units and systems where a system makes one more unit.
 use Rattle.clnp_machine.proofs.ClnpBase.Lists.{AllByRecursion-implies}
 use Rattle.std.proofs.Common.{ℕ, List, [], ◌∷◌, ◌++◌, arith}
-use Rattle.clnp_network.specs.ScenarioPlan.Plan.{Plan}
+use Rattle.clnp_machine.specs.ScenarioPlan.Plan.{Plan}
 use Rattle.clnp_machine.specs.Unit.{DataUnit}
 use Rattle.clnp_machine.specs.System.{SystemState}
 use Rattle.clnp_machine.specs.Local.{with_use, makes}

@@ -4,18 +4,18 @@ use Rattle.clnp_machine.proofs.ClnpBase.ListSteps.{slice_get_map}
 use Rattle.std.proofs.Common.{◌≡◌, ◌∙◌, ◌≤◌, ℕ, List, ◌+◌, ◌-◌, false, refl, sym, ap, subst, arith, Contains}
 use Rattle.std.specs.Prelude.{slice_get, Option, None, Some}
 use Rattle.std.proofs.lemmas.Option.{slice_get_within}
-use Rattle.clnp_network.specs.ScenarioPlan.Plan.{Plan, IsFit}
-use Rattle.clnp_machine.specs.EsisTables.declared.fact.Neighbour.{Neighbour}
+use Rattle.clnp_machine.specs.ScenarioPlan.Plan.{Plan, IsFit}
+use Rattle.clnp_machine.specs.SystemTables.declared.esis_tables.fact.Neighbour.{Neighbour}
 use Rattle.clnp_machine.specs.ClnpPlan.Journal.{Line}
 use Rattle.clnp_machine.specs.Unit.{Maker, Packet}
 use Rattle.clnp_machine.specs.Content.{Content, Labelled, Esis, Unlabelled}
 use Rattle.clnp_machine.specs.EveryStep.{IsRangeOf}
 use Rattle.clnp_machine.specs.System.{SystemState, Input}
 use Rattle.clnp_machine.specs.Step.{step}
-use Rattle.clnp_network.specs.LabelledNetwork.{LabelledNetwork, Copy, Numbered, Step, clock_at, clock_of, first_port, is_group, is_late, frame_to, takes_effect, addressees_from, settle_copy, settle_one, deliver, lose_copy, lose_one}
-use Rattle.clnp_network.specs.Clocks.{clocks_of}
-use Rattle.clnp_network.specs.Run.{Entry}
-use Rattle.clnp_network.specs.Safe.{ReportsStand}
+use Rattle.clnp_machine.specs.ClnpNetwork.LabelledNetwork.{LabelledNetwork, Copy, Numbered, Step, clock_at, clock_of, first_port, is_group, is_late, frame_to, takes_effect, addressees_from, settle_copy, settle_one, deliver, lose_copy, lose_one}
+use Rattle.clnp_machine.specs.ClnpNetwork.Clocks.{clocks_of}
+use Rattle.clnp_machine.specs.ClnpNetwork.Run.{Entry}
+use Rattle.clnp_machine.specs.ClnpNetwork.Safe.{ReportsStand}
 use Rattle.clnp_safety.specs.Invariant.{Carries, CopyIsSound, IsBornWithUnit, WorldIsSound}
 use Rattle.clnp_safety.specs.Outside.{IsMadeBy}
 use Rattle.clnp_safety.specs.StepLaws.{StepLaws}

@@ -7,26 +7,26 @@ use Rattle.std.specs.Prelude.{slice_get}
 use Rattle.std.specs.List.{AllByRecursion}
 use Rattle.std.proofs.lemmas.List.Elements.{Contains-append_left}
 use Rattle.std.proofs.lemmas.Option.{get_or_from_slice_get, slice_get_within}
-use Rattle.clnp_machine.specs.Nsap.declared.target.Target.{Target}
-use Rattle.clnp_machine.specs.PduHeader.declared.kind.Kind.TheVariants.{Er}
+use Rattle.clnp_machine.specs.Pdus.declared.nsap.target.Target.{Target}
+use Rattle.clnp_machine.specs.Pdus.declared.pdu_header.kind.Kind.TheVariants.{Er}
 use Rattle.clnp_machine.specs.Reassembly.Arrival.{Arrival}
 use Rattle.clnp_machine.specs.ClnpPlan.Configuration.{SystemConfiguration}
 use Rattle.clnp_machine.specs.ClnpPlan.declared.config.Limits.{Limits}
 use Rattle.clnp_machine.specs.ClnpPlan.declared.config.PortConfig.{PortConfig}
 use Rattle.clnp_machine.specs.ClnpPlan.declared.note.Note.{Note}
-use Rattle.clnp_network.specs.ScenarioPlan.Plan.{InjectsNothing, IsClosed, IsFit, Plan}
-use Rattle.clnp_network.specs.ScenarioPlan.declared.event.Event.{Event}
-use Rattle.clnp_network.specs.ScenarioPlan.declared.event.Event.TheVariants.{Send, Echo, Inject, Mtu, Route, Unroute, Port}
-use Rattle.clnp_network.specs.ScenarioPlan.declared.event.Move.{Move}
+use Rattle.clnp_machine.specs.ScenarioPlan.Plan.{InjectsNothing, IsClosed, IsFit, Plan}
+use Rattle.clnp_machine.specs.ClnpPlan.declared.scenario_plan.event.Event.{Event}
+use Rattle.clnp_machine.specs.ClnpPlan.declared.scenario_plan.event.Event.TheVariants.{Send, Echo, Inject, Mtu, Route, Unroute, Port}
+use Rattle.clnp_machine.specs.ClnpPlan.declared.scenario_plan.event.Move.{Move}
 use Rattle.clnp_machine.specs.Unit.{DataUnit, Maker, DeclaredAt, Packet}
 use Rattle.clnp_machine.specs.Content.{Content, Labelled, Esis, Unlabelled}
 use Rattle.clnp_machine.specs.System.{SystemState, Input, FrameComes, Output, Transmits, SendsEsis, Notes, Effect}
 use Rattle.clnp_machine.specs.Step.{step}
 use Rattle.clnp_machine.specs.EveryStep.{ComesWith, IsAtHand, NotesOnly, ReportsOn, WasKeptOrComes, segments_in}
 use Rattle.clnp_machine.specs.Told.{SpellsPdus}
-use Rattle.clnp_network.specs.LabelledNetwork.{LabelledNetwork, Copy, after, copy_from, copy_from_outside, first_port, first_world, frame_to, is_group, put_out, sends_frame, states_from, takes_effect, with_effect}
-use Rattle.clnp_network.specs.Run.{Entry, entries_of, world_after}
-use Rattle.clnp_network.specs.Safe.{CameInCopy, KeepsWhatCame, ReportsOnCopy, ReportsStand, StandsInCopy}
+use Rattle.clnp_machine.specs.ClnpNetwork.LabelledNetwork.{LabelledNetwork, Copy, after, copy_from, copy_from_outside, first_port, first_world, frame_to, is_group, put_out, sends_frame, states_from, takes_effect, with_effect}
+use Rattle.clnp_machine.specs.ClnpNetwork.Run.{Entry, entries_of, world_after}
+use Rattle.clnp_machine.specs.ClnpNetwork.Safe.{CameInCopy, KeepsWhatCame, ReportsOnCopy, ReportsStand, StandsInCopy}
 use Rattle.clnp_safety.specs.StepLaws.{StepLaws}
 use Rattle.clnp_safety.proofs.Carried.{AllIsCarried, ComesFairly, first_is_carried, frame_comes_fairly, sizes_are_carried, step_is_carried}
 use Rattle.clnp_safety.proofs.EveryMove.{AnyFrame, EachStepKeeps, Follows, GivesOnly, IsOfNow, asked_by_all, effect_makes, keeps-move, keeps-moves}

@@ -3,7 +3,7 @@ use Rattle.clnp_machine.proofs.ClnpBase.Lists.{AllByRecursion-append}
 use Rattle.std.proofs.Common.{◌≡◌, ℕ, ◌+◌, ◌-◌, ◌<◌, List, [], ◌∷◌, ◌++◌, length, refl, inl, inr, Bool, true, false, arith}
 use Rattle.std.specs.Prelude.{◌==◌, if◌then◌else◌, nat_lt, Option, None, Some, slice_get, slice_set}
 use Rattle.std.proofs.lemmas.Bool.{cases_Bool}
-use Rattle.clnp_machine.specs.Nsap.declared.target.Target.{Target}
+use Rattle.clnp_machine.specs.Pdus.declared.nsap.target.Target.{Target}
 use Rattle.clnp_machine.specs.ClnpPlan.Journal.{Line, Noted, Void, Late, Injected, Resized, Received, Lost, ForNobody}
 use Rattle.clnp_machine.specs.ClnpPlan.declared.config.Limits.{Limits}
 use Rattle.clnp_machine.specs.ClnpPlan.declared.config.Role.{Role}
@@ -11,13 +11,13 @@ use Rattle.clnp_machine.specs.ClnpPlan.declared.config.Role.TheVariants.{Host, R
 use Rattle.clnp_machine.specs.ClnpPlan.declared.config.PortConfig.{PortConfig}
 use Rattle.clnp_machine.specs.ClnpPlan.declared.note.Note.{Note}
 use Rattle.clnp_machine.specs.ClnpPlan.declared.note.Note.TheVariants as note
-use Rattle.clnp_machine.specs.Forwarding.declared.route.Route.{Route}
+use Rattle.clnp_machine.specs.SystemTables.declared.forwarding.route.Route.{Route}
 use Rattle.clnp_machine.specs.Forwarding.Distinct.{has_prefix}
-use Rattle.clnp_network.specs.ScenarioPlan.Plan.{Subnetwork}
+use Rattle.clnp_machine.specs.ScenarioPlan.Plan.{Subnetwork}
 use Rattle.clnp_machine.specs.Change.{Change, PortIsAt, PortTakes, RouteIsGone, RouteIsSet}
 use Rattle.clnp_machine.specs.System.{SystemState, Input, IsChanged, Output}
 use Rattle.clnp_machine.specs.Step.{step}
-use Rattle.clnp_network.specs.LabelledNetwork.{LabelledNetwork, Copy, Numbered, Step, nothing, writes, followed_by, put_out, put_all_out, takes_effect, comes, comes_to, asks_role, asks_system, asks, first_port, frame_to, hand_to, is_late, give_to, give, give_each, for_nobody, settle_for, is_void, is_addressee, deliver_to, deliver_at, deliver, copy_from_outside, injects_on, injects, tells_of, ports_of, moved, moves_port_to, moves_port_of, moves_port_on, moves_port, sets_route_as, sets_route_of, sets_route, removes_route_as, removes_route_of, removes_route, resizes_port_of, resizes_port, resizes_ports, resizes_at, resizes_each, resizes_on, resizes}
+use Rattle.clnp_machine.specs.ClnpNetwork.LabelledNetwork.{LabelledNetwork, Copy, Numbered, Step, nothing, writes, followed_by, put_out, put_all_out, takes_effect, comes, comes_to, asks_role, asks_system, asks, first_port, frame_to, hand_to, is_late, give_to, give, give_each, for_nobody, settle_for, is_void, is_addressee, deliver_to, deliver_at, deliver, copy_from_outside, injects_on, injects, tells_of, ports_of, moved, moves_port_to, moves_port_of, moves_port_on, moves_port, sets_route_as, sets_route_of, sets_route, removes_route_as, removes_route_of, removes_route, resizes_port_of, resizes_port, resizes_ports, resizes_at, resizes_each, resizes_on, resizes}
 use Rattle.std.specs.List.{AllByRecursion, list_any, range_with_len}
 use Rattle.clnp_machine.proofs.ClnpBase.Choices.{one_of}
 

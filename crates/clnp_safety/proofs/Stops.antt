@@ -3,10 +3,10 @@ use Rattle.std.proofs.Common.{◌≡◌, ℕ, List, [], ◌∷◌, ◌++◌, Boo
 use Rattle.std.specs.Prelude.{if◌then◌else◌, Option, None, Some}
 use Rattle.clnp_machine.specs.ClnpPlan.declared.journal.Telling.{Telling}
 use Rattle.clnp_machine.specs.ClnpPlan.declared.journal.Telling.TheVariants as telling
-use Rattle.clnp_network.specs.ScenarioPlan.Plan.{Plan}
-use Rattle.clnp_network.specs.ScenarioPlan.declared.event.Move.{Move}
-use Rattle.clnp_network.specs.LabelledNetwork.{LabelledNetwork, after, is_full, weight}
-use Rattle.clnp_network.specs.Run.{world_after, told_lines, told_of, text_of, until_full, full_weight}
+use Rattle.clnp_machine.specs.ScenarioPlan.Plan.{Plan}
+use Rattle.clnp_machine.specs.ClnpPlan.declared.scenario_plan.event.Move.{Move}
+use Rattle.clnp_machine.specs.ClnpNetwork.LabelledNetwork.{LabelledNetwork, after, is_full, weight}
+use Rattle.clnp_machine.specs.ClnpNetwork.Run.{world_after, told_lines, told_of, text_of, until_full, full_weight}
 use Rattle.clnp_safety.specs.Growth.{IsFront, IsFullAt}
 
 front_one_more : (move : Move) (made moves : List Move) (full : Bool) → IsFront made moves → IsFront (if full then [] else move ∷ made) (move ∷ moves)

@@ -4,14 +4,14 @@ use Rattle.clnp_machine.proofs.ClnpBase.Sums.{sum_filter}
 use Rattle.std.proofs.Common.{◌≡◌, sym, ap, subst, refl, ℕ, zero, suc, ◌+◌, ◌<◌, ◌≤◌, false, not, List, [], ◌∷◌, ◌++◌, length, Option, None, Some, arith}
 use Rattle.std.specs.List.{AllByRecursion}
 use Rattle.std.proofs.lemmas.List.Elements.{recursion_from_All}
-use Rattle.clnp_network.specs.ScenarioPlan.Plan.{Plan}
-use Rattle.clnp_machine.specs.Reassembly.declared.segment.Key.{Key}
+use Rattle.clnp_machine.specs.ScenarioPlan.Plan.{Plan}
+use Rattle.clnp_machine.specs.SystemTables.declared.reassembly.segment.Key.{Key}
 use Rattle.clnp_machine.specs.Reassembly.Arrival.{same_key}
 use Rattle.clnp_machine.specs.Reassembly.Buffer.{Buffer, due, first_carried, held, is_whole, size_of, without}
 use Rattle.clnp_machine.specs.Unit.{DataUnit, Packet}
 use Rattle.clnp_machine.specs.Content.{Labelled}
 use Rattle.clnp_machine.specs.ClnpOptions.Reasons.{reason_code}
-use Rattle.clnp_machine.specs.ClnpOptions.declared.reasons.Reason.TheVariants.{LifetimeExpiredInReassembly}
+use Rattle.clnp_machine.specs.Pdus.declared.clnp_options.reasons.Reason.TheVariants.{LifetimeExpiredInReassembly}
 use Rattle.clnp_machine.specs.System.{SystemState}
 use Rattle.clnp_machine.specs.Local.{Action, Deed, Sends, Tells, at_moment, discard_first, expire, give_up_due, gives_up, made_in, tick}
 use Rattle.clnp_machine.proofs.Ending.{without_fewer}

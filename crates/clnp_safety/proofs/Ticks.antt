@@ -4,7 +4,7 @@ use Rattle.std.proofs.Common.{◌≡◌, ◌∙◌, ◌≤◌, ℕ, List, [], �
 use Rattle.std.specs.Prelude.{max, slice_get, Option, None, Some}
 use Rattle.std.specs.List.{range_with_len}
 use Rattle.std.proofs.lemmas.Option.{same_Some}
-use Rattle.clnp_network.specs.ScenarioPlan.Plan.{IsFit, Plan}
+use Rattle.clnp_machine.specs.ScenarioPlan.Plan.{IsFit, Plan}
 use Rattle.clnp_machine.specs.ClnpPlan.Journal.{Line}
 use Rattle.clnp_machine.specs.Unit.{DataUnit}
 use Rattle.clnp_machine.specs.System.{SystemState, MomentComes, then_does}
@@ -12,8 +12,8 @@ use Rattle.clnp_machine.specs.Local.{made_in, tick}
 use Rattle.clnp_machine.specs.Esis.{forgets, says_hello}
 use Rattle.clnp_machine.specs.Step.{effect_of, moment_comes, step}
 use Rattle.clnp_machine.specs.Told.{NoteIsQuiet, TellsOnly}
-use Rattle.clnp_network.specs.Run.{Entry}
-use Rattle.clnp_network.specs.LabelledNetwork.{LabelledNetwork, goes_on, takes_effect, tick_alone, tick_each, tick_one, tick_system}
+use Rattle.clnp_machine.specs.ClnpNetwork.Run.{Entry}
+use Rattle.clnp_machine.specs.ClnpNetwork.LabelledNetwork.{LabelledNetwork, goes_on, takes_effect, tick_alone, tick_each, tick_one, tick_system}
 use Rattle.clnp_safety.specs.Invariant.{EachRests, SystemIsSound, WorldIsSound}
 use Rattle.clnp_safety.specs.StepLaws.{StepLaws}
 use Rattle.clnp_safety.proofs.Deeds.{IsHonest, quiet_action, reports_are_sound, reports_reply_nothing, reports_rest}

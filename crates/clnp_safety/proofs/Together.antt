@@ -4,10 +4,10 @@ use Rattle.std.specs.Prelude.{nat_lt, replicate, slice_get}
 use Rattle.std.specs.List.{list_any}
 use Rattle.std.proofs.lemmas.Bool.{cases_Bool, true≢false}
 use Rattle.std.proofs.lemmas.Option.{same_Some}
-use Rattle.clnp_network.specs.ScenarioPlan.Standing.{AreTogether, changed_at, is_ahead}
-use Rattle.clnp_network.specs.ScenarioPlan.declared.event.Move.{Move}
-use Rattle.clnp_network.specs.ScenarioPlan.declared.event.Move.TheVariants.{One, SettleOne, LoseOne, TickOne, TickSystem}
-use Rattle.clnp_network.specs.Clocks.{StayTogether, TickTogether, TicksForAll, clocks_after}
+use Rattle.clnp_machine.specs.ScenarioPlan.Standing.{AreTogether, changed_at, is_ahead}
+use Rattle.clnp_machine.specs.ClnpPlan.declared.scenario_plan.event.Move.{Move}
+use Rattle.clnp_machine.specs.ClnpPlan.declared.scenario_plan.event.Move.TheVariants.{One, SettleOne, LoseOne, TickOne, TickSystem}
+use Rattle.clnp_machine.specs.ClnpNetwork.Clocks.{StayTogether, TickTogether, TicksForAll, clocks_after}
 
 -- Lists.
 

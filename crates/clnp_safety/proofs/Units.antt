@@ -6,11 +6,11 @@ use Rattle.std.proofs.Math.Nat.{le-max_left}
 use Rattle.std.proofs.lemmas.List.Elements.{Contains-append_left, Contains-append_right}
 use Rattle.clnp_machine.specs.Reassembly.Arrival.{Arrival}
 use Rattle.clnp_machine.specs.Reassembly.Buffer.{Buffer}
-use Rattle.clnp_network.specs.ScenarioPlan.Plan.{Plan, IsFit}
+use Rattle.clnp_machine.specs.ScenarioPlan.Plan.{Plan, IsFit}
 use Rattle.clnp_machine.specs.ClnpPlan.Configuration.{SystemConfiguration, AreDistinct}
 use Rattle.clnp_machine.specs.ClnpOptions.Edits.{HaveOneForm}
-use Rattle.clnp_machine.specs.PduHeader.declared.kind.Kind.{Kind}
-use Rattle.clnp_machine.specs.PduHeader.declared.kind.Kind.TheVariants.{Dt, Er, Erq, Erp}
+use Rattle.clnp_machine.specs.Pdus.declared.pdu_header.kind.Kind.{Kind}
+use Rattle.clnp_machine.specs.Pdus.declared.pdu_header.kind.Kind.TheVariants.{Dt, Er, Erq, Erp}
 use Rattle.clnp_machine.specs.Edited.{AreEdited}
 use Rattle.clnp_machine.proofs.Editing.{edited_again}
 use Rattle.clnp_machine.specs.Unit.{DataUnit, IsCarriable, Packet}
@@ -18,9 +18,9 @@ use Rattle.clnp_machine.specs.Content.{Content, Labelled, Esis, Unlabelled}
 use Rattle.clnp_machine.specs.System.{SystemState}
 use Rattle.clnp_machine.specs.EveryStep.{GoesOnFrom, IsRangeOf}
 use Rattle.std.specs.List.{AllByRecursion}
-use Rattle.clnp_network.specs.LabelledNetwork.{Copy}
-use Rattle.clnp_network.specs.Safe.{Rests}
-use Rattle.clnp_network.specs.Run.{Entry}
+use Rattle.clnp_machine.specs.ClnpNetwork.LabelledNetwork.{Copy}
+use Rattle.clnp_machine.specs.ClnpNetwork.Safe.{Rests}
+use Rattle.clnp_machine.specs.ClnpNetwork.Run.{Entry}
 use Rattle.clnp_safety.specs.Invariant.{Owns, CopyIsSound, Carries, IsMadeOn, IsOfUnit, BufferIsSound, EachRests, UnitIsSound, UnitsAreSound}
 use Rattle.clnp_safety.specs.StepLaws.{StepLaws}
 pub use Rattle.clnp_machine.proofs.Sent.{range_sooner, range_later}

@@ -10,23 +10,23 @@ use Rattle.clnp_machine.specs.ClnpOptions.Grammar.{joined}
 use Rattle.clnp_machine.specs.ClnpOptions.Rules.{refusal as options_refusal, form_refusal, list_refusal, place_of, place_of_repeat}
 use Rattle.clnp_machine.specs.PduHeader.Rules.{extent_refusal, fixed_part_refusal, addresses_refusal, lengths_refusal, header_refusal, refusal}
 use Rattle.clnp_machine.specs.EsisPdus.Timer.{seconds_of}
-use Rattle.clnp_machine.specs.Forwarding.declared.route.Route.{Route}
+use Rattle.clnp_machine.specs.SystemTables.declared.forwarding.route.Route.{Route}
 use Rattle.clnp_machine.specs.ClnpPlan.Configuration.{SystemConfiguration}
 use Rattle.clnp_machine.specs.ClnpPlan.declared.config.PortConfig.{PortConfig}
 use Rattle.clnp_machine.specs.ClnpPlan.declared.config.Role.TheVariants.{Host, Router}
 use Rattle.clnp_machine.specs.ClnpPlan.declared.config.Settings.{Settings}
-use Rattle.clnp_network.specs.ScenarioPlan.Plan.{Plan}
-use Rattle.clnp_network.specs.ScenarioPlan.declared.event.Event.{Event}
-use Rattle.clnp_network.specs.ScenarioPlan.declared.event.Body.TheVariants.{Hex}
-use Rattle.clnp_network.specs.ScenarioPlan.declared.event.Event.TheVariants.{Send, Settle, Tick, Inject, Mtu, Route as SetRoute, Unroute, Port}
-use Rattle.scenario_writing.specs.Scenario.Grammar.{BadLine, plan_of, plan_at, events_from, counted_event}
-use Rattle.scenario_writing.specs.Scenario.Declarations.{limits_line, subnet_line, room_word, setting_word, system_line, address_line, port_line, declaration_line}
-use Rattle.scenario_writing.specs.Scenario.Events.{wish_word, send_line, deliver_line, tick_line, tick_system_line, ticks_line, restart_line, echo_line, count_line, inject_line, change_line, mtu_line, port_line as moved_line, event_line}
-use Rattle.clnp_machine.specs.Nsap.declared.target.Target.TheVariants.{System}
+use Rattle.clnp_machine.specs.ScenarioPlan.Plan.{Plan}
+use Rattle.clnp_machine.specs.ClnpPlan.declared.scenario_plan.event.Event.{Event}
+use Rattle.clnp_machine.specs.ClnpPlan.declared.scenario_plan.event.Body.TheVariants.{Hex}
+use Rattle.clnp_machine.specs.ClnpPlan.declared.scenario_plan.event.Event.TheVariants.{Send, Settle, Tick, Inject, Mtu, Route as SetRoute, Unroute, Port}
+use Rattle.scenario.specs.Grammar.{BadLine, plan_of, plan_at, events_from, counted_event}
+use Rattle.scenario.specs.Declarations.{limits_line, subnet_line, room_word, setting_word, system_line, address_line, port_line, declaration_line}
+use Rattle.scenario.specs.Events.{wish_word, send_line, deliver_line, tick_line, tick_system_line, ticks_line, restart_line, echo_line, count_line, inject_line, change_line, mtu_line, port_line as moved_line, event_line}
+use Rattle.clnp_machine.specs.Pdus.declared.nsap.target.Target.TheVariants.{System}
 use Rattle.clnp_machine.specs.Nsap.Prefix.{digits_of}
 use Rattle.clnp_machine.specs.Nsap.Text.{octets_of}
 use Rattle.std.specs.Fmt.{digits}
-use Rattle.clnp_network.specs.Run.{journal, trace}
+use Rattle.clnp_machine.specs.ClnpNetwork.Run.{journal, trace}
 
 abbrev two_hosts : List ℕ
 two_hosts = codes "clnp-sim 1\nsubnet lan 1500\nsystem a host hello=0\nsystem b host hello=0\naddress a 47002702\naddress b 47002701\nport a 0 lan 01\nport b 0 lan 02\nevents\nsend a 47002702 47002701 hex:6869 life=10 whole\nsettle 1\nend\n"

@@ -4,8 +4,8 @@ use Rattle.std.specs.List.{AllByRecursion}
 use Rattle.clnp_machine.specs.ClnpPlan.Configuration.{IsWithin}
 use Rattle.clnp_machine.specs.Attachment.{IsAttached}
 use Rattle.clnp_machine.specs.System.{SystemState}
-use Rattle.clnp_network.specs.ScenarioPlan.Plan.{Plan}
-use Rattle.clnp_network.specs.LabelledNetwork.{LabelledNetwork}
+use Rattle.clnp_machine.specs.ScenarioPlan.Plan.{Plan}
+use Rattle.clnp_machine.specs.ClnpNetwork.LabelledNetwork.{LabelledNetwork}
 
 -- each subnetwork of a plan has an MTU of at least 512
 pub record AreItsMtus (plan : Plan) (mtus : List ℕ) : Type 0 where

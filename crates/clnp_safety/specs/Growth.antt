@@ -1,9 +1,9 @@
 -- Copies stay for good, and are settled one after another, until there are too many.
 use Rattle.std.specs.Prelude.{◌≡◌, ℕ, ◌-◌, ◌≤◌, true, List, ◌++◌, length, slice_get, Some}
-use Rattle.clnp_machine.specs.Nsap.declared.target.Target.{Target}
+use Rattle.clnp_machine.specs.Pdus.declared.nsap.target.Target.{Target}
 use Rattle.clnp_machine.specs.ClnpPlan.Journal.{Line, Transmitted}
 use Rattle.clnp_machine.specs.Content.{frame_of}
-use Rattle.clnp_network.specs.LabelledNetwork.{Copy, LabelledNetwork, is_full, weight}
+use Rattle.clnp_machine.specs.ClnpNetwork.LabelledNetwork.{Copy, LabelledNetwork, is_full, weight}
 
 -- the first list is a front of the second
 abbrev pub IsFront : {A : Type 0} → List A → List A → Type 0

@@ -1,13 +1,13 @@
 -- What holds of each network of a run, beside the entries before it and the units that were made in them.
 use Rattle.std.specs.Prelude.{◌≡◌, ℕ, ◌+◌, ◌≤◌, ◌<◌, ◌⊎◌, false, List, [], length, slice_get, None, Some, AllPairs}
 use Rattle.std.specs.List.{AllByRecursion, Contains}
-use Rattle.clnp_network.specs.ScenarioPlan.Plan.{Plan}
-use Rattle.clnp_network.specs.ScenarioPlan.Standing.{AreTogether}
+use Rattle.clnp_machine.specs.ScenarioPlan.Plan.{Plan}
+use Rattle.clnp_machine.specs.ScenarioPlan.Standing.{AreTogether}
 use Rattle.clnp_machine.specs.ClnpPlan.Configuration.{IsWithin, SystemConfiguration}
 use Rattle.hex.specs.Hex.{IsBytes}
 use Rattle.clnp_machine.specs.Nsap.Address.{IsAddress}
-use Rattle.clnp_machine.specs.PduHeader.declared.kind.Kind.{Kind}
-use Rattle.clnp_machine.specs.PduHeader.declared.kind.Kind.TheVariants.{Dt, Er, Erq, Erp}
+use Rattle.clnp_machine.specs.Pdus.declared.pdu_header.kind.Kind.{Kind}
+use Rattle.clnp_machine.specs.Pdus.declared.pdu_header.kind.Kind.TheVariants.{Dt, Er, Erq, Erp}
 use Rattle.clnp_machine.specs.PduHeader.Rules.{header_of}
 use Rattle.clnp_machine.specs.PduHeader.Spelling.{type_code}
 use Rattle.clnp_machine.specs.Reassembly.Arrival.{Arrival}
@@ -19,10 +19,10 @@ use Rattle.clnp_machine.specs.Content.{Content, IsCarried, Labelled, Esis, Unlab
 use Rattle.clnp_machine.specs.System.{SystemState}
 use Rattle.clnp_machine.specs.EveryStep.{IsRangeOf, KnowsAddresses}
 use Rattle.clnp_machine.specs.Local.{header_size, offered}
-use Rattle.clnp_network.specs.LabelledNetwork.{LabelledNetwork, Copy}
-use Rattle.clnp_network.specs.Clocks.{clocks_of}
-use Rattle.clnp_network.specs.Run.{Entry}
-use Rattle.clnp_network.specs.Safe.{KeepsWhatCame, ReportsStand, RequestedSinceRestart, Rests, WasSent}
+use Rattle.clnp_machine.specs.ClnpNetwork.LabelledNetwork.{LabelledNetwork, Copy}
+use Rattle.clnp_machine.specs.ClnpNetwork.Clocks.{clocks_of}
+use Rattle.clnp_machine.specs.ClnpNetwork.Run.{Entry}
+use Rattle.clnp_machine.specs.ClnpNetwork.Safe.{KeepsWhatCame, ReportsStand, RequestedSinceRestart, Rests, WasSent}
 use Rattle.clnp_safety.specs.Outside.{IsMadeBy}
 
 -- the system declared at a place has an address

@@ -1,10 +1,10 @@
 -- Scenario texts of version 1 in version 2.
 use Rattle.std.specs.Prelude.{◌≡◌, ℕ, List, Ok}
-use Rattle.scenario_writing.specs.Canonical as canonical
-use Rattle.scenario_writing.specs.Scenario.Grammar.{plan_of}
-use Rattle.scenario_writing.specs.Migration.{migrated, migration_of}
-use Rattle.clnp_network.specs.ScenarioPlan.Plan.{Plan}
-use Rattle.clnp_network.specs.Run as network_run
+use Rattle.scenario.specs.ScenarioWriting.Canonical as canonical
+use Rattle.scenario.specs.Grammar.{plan_of}
+use Rattle.scenario.specs.ScenarioWriting.Migration.{migrated, migration_of}
+use Rattle.clnp_machine.specs.ScenarioPlan.Plan.{Plan}
+use Rattle.clnp_machine.specs.ClnpNetwork.Run as network_run
 
 -- A text of version 1 becomes the canonical text of its scenario in version 2, in which all clocks tick together; that text is
 -- read as this scenario, and its run and its journal are the same.

@@ -1,15 +1,15 @@
 -- What holds of frames whether they came from outside or not.
 use Rattle.std.specs.Prelude.{◌≡◌, ◌⊎◌, ℕ, List}
 use Rattle.std.specs.List.{AllByRecursion, Contains}
-use Rattle.clnp_machine.specs.Nsap.declared.target.Target.{Target}
-use Rattle.clnp_network.specs.ScenarioPlan.Plan.{Plan}
-use Rattle.clnp_network.specs.ScenarioPlan.declared.event.Event.{Event}
-use Rattle.clnp_network.specs.ScenarioPlan.declared.event.Event.TheVariants.{Inject}
+use Rattle.clnp_machine.specs.Pdus.declared.nsap.target.Target.{Target}
+use Rattle.clnp_machine.specs.ScenarioPlan.Plan.{Plan}
+use Rattle.clnp_machine.specs.ClnpPlan.declared.scenario_plan.event.Event.{Event}
+use Rattle.clnp_machine.specs.ClnpPlan.declared.scenario_plan.event.Event.TheVariants.{Inject}
 use Rattle.clnp_machine.specs.Unit.{DataUnit, Maker, Outside, Packet}
 use Rattle.clnp_machine.specs.Content.{Content, Labelled, Esis, Unlabelled, content_of, frame_of}
 use Rattle.clnp_machine.specs.EveryStep.{BreaksNoEsisRule, BreaksNoRule}
-use Rattle.clnp_network.specs.LabelledNetwork.{LabelledNetwork, Copy}
-use Rattle.clnp_network.specs.Safe.{RangeIn}
+use Rattle.clnp_machine.specs.ClnpNetwork.LabelledNetwork.{LabelledNetwork, Copy}
+use Rattle.clnp_machine.specs.ClnpNetwork.Safe.{RangeIn}
 
 -- where a frame carries a packet it breaks no rule of PDUs, and where it carries an ES-IS value none of ES-IS PDUs
 abbrev pub PduIsUnbroken : Content → Type 0

@@ -1,7 +1,7 @@
 -- What a refused send leaves.
 use Rattle.std.specs.Prelude.{◌≡◌, ℕ, List}
-use Rattle.clnp_network.specs.LabelledNetwork.{LabelledNetwork, Step}
-use Rattle.clnp_network.specs.Safe.{HandsUp}
+use Rattle.clnp_machine.specs.ClnpNetwork.LabelledNetwork.{LabelledNetwork, Step}
+use Rattle.clnp_machine.specs.ClnpNetwork.Safe.{HandsUp}
 
 -- the world is as it was, and nothing is handed up
 pub record LeavesNothing (w : LabelledNetwork) (step : Step) : Type 0 where

@@ -1,12 +1,12 @@
 -- What is safe about the runs of a scenario, and about whatever moves of it, each part by its name.
 use Rattle.std.specs.Prelude.{◌≡◌, List, [], ◌++◌}
 use Rattle.std.specs.List.{AllByRecursion, flat_map}
-use Rattle.clnp_network.specs.ScenarioPlan.Plan.{Plan, IsClosed}
-use Rattle.clnp_network.specs.ScenarioPlan.declared.event.Move.{Move}
-use Rattle.clnp_network.specs.LabelledNetwork.{LabelledNetwork, after, first_world}
-use Rattle.clnp_network.specs.Clocks.{AreCurrent, NoneIsAhead, StaysTogether, TickTogether, clocks_after, clocks_of}
-use Rattle.clnp_network.specs.Run.{Entry, ending, entries_of, entry_text, journal, last_world, moves_made, moves_of_plan, run, stopped_at, world_after}
-use Rattle.clnp_network.specs.Safe.{CarriesRanges, EachIsFounded, FramesAreUnbroken, HoldsUnitsApart, HopsCountCopies, IdentifiersRest, IsHonest, IsWithinBudgets, IsWithinLifetimes, KeepsHeaders, KeepsWhatCame, NoInterference, NoneIsAlien, RedirectsChangeOneNextHop, TellsNoRule}
+use Rattle.clnp_machine.specs.ScenarioPlan.Plan.{Plan, IsClosed}
+use Rattle.clnp_machine.specs.ClnpPlan.declared.scenario_plan.event.Move.{Move}
+use Rattle.clnp_machine.specs.ClnpNetwork.LabelledNetwork.{LabelledNetwork, after, first_world}
+use Rattle.clnp_machine.specs.ClnpNetwork.Clocks.{AreCurrent, NoneIsAhead, StaysTogether, TickTogether, clocks_after, clocks_of}
+use Rattle.clnp_machine.specs.ClnpNetwork.Run.{Entry, ending, entries_of, entry_text, journal, last_world, moves_made, moves_of_plan, run, stopped_at, world_after}
+use Rattle.clnp_machine.specs.ClnpNetwork.Safe.{CarriesRanges, EachIsFounded, FramesAreUnbroken, HoldsUnitsApart, HopsCountCopies, IdentifiersRest, IsHonest, IsWithinBudgets, IsWithinLifetimes, KeepsHeaders, KeepsWhatCame, NoInterference, NoneIsAlien, RedirectsChangeOneNextHop, TellsNoRule}
 use Rattle.clnp_safety.specs.Attached.{IsAttachedThroughout}
 use Rattle.clnp_safety.specs.Growth.{TellsItsCopy}
 use Rattle.clnp_safety.specs.Invariant.{NetworkIsSound}

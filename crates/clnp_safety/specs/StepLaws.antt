@@ -10,8 +10,8 @@ use Rattle.clnp_machine.specs.MadePdus.Match.{Echoes, echoes}
 use Rattle.clnp_machine.specs.EsisPdus.Grammar.{IsPdu}
 use Rattle.clnp_machine.specs.EsisPdus.Spelling.{spelling}
 use Rattle.clnp_machine.specs.EsisPdus.Value.{EsisValue}
-use Rattle.clnp_machine.specs.EsisTables.declared.fact.Neighbour.{Neighbour}
-use Rattle.clnp_machine.specs.Reassembly.declared.table.TableLimits.{TableLimits}
+use Rattle.clnp_machine.specs.SystemTables.declared.esis_tables.fact.Neighbour.{Neighbour}
+use Rattle.clnp_machine.specs.SystemTables.declared.reassembly.table.TableLimits.{TableLimits}
 use Rattle.clnp_machine.specs.Reassembly.Arrival.{Arrival}
 use Rattle.clnp_machine.specs.Reassembly.Buffer as buffer
 use Rattle.clnp_machine.specs.Reassembly.Buffer.{Buffer, buffer_of, clashes, held, without}

@@ -3,15 +3,15 @@
 ghost use Rattle.std.specs.Prelude.{◌≡◌, ℕ, List, [], IfOk, None, Some};
 ghost use Rattle.std.specs.List.{AllByRecursion};
 ghost use Rattle.clnp_machine.specs.ClnpPlan.declared.config.Limits.{Limits};
-ghost use Rattle.clnp_network.specs.ScenarioPlan.Plan.{Plan, IsClosed, IsFit};
-ghost use Rattle.clnp_network.specs.ScenarioPlan.declared.event.Move.{Move};
-ghost use Rattle.clnp_network.specs.LabelledNetwork.{LabelledNetwork, after, first_world};
-ghost use Rattle.clnp_network.specs.Clocks.{AreCurrent, NoneIsAhead, StaysTogether, TickTogether, clock_after, clocks_after, clocks_of};
-ghost use Rattle.clnp_network.specs.Run.{Entry, entries_of, full_weight, moves_made, moves_of_plan, run, text_of, until_full, world_after};
-ghost use Rattle.clnp_network.specs.Safe.{CarriesRanges, EachIsFounded, EachWasSent, FramesAreUnbroken, HoldsUnitsApart, HopsCountCopies, IdentifiersRest, IsHonest, IsSend, NoRefusal, IsWithinBudgets, IsWithinLifetimes, KeepsHeaders, KeepsWhatCame, NoInterference, NoneIsAlien, RedirectsChangeOneNextHop, TellsNoRule};
+ghost use Rattle.clnp_machine.specs.ScenarioPlan.Plan.{Plan, IsClosed, IsFit};
+ghost use Rattle.clnp_machine.specs.ClnpPlan.declared.scenario_plan.event.Move.{Move};
+ghost use Rattle.clnp_machine.specs.ClnpNetwork.LabelledNetwork.{LabelledNetwork, after, first_world};
+ghost use Rattle.clnp_machine.specs.ClnpNetwork.Clocks.{AreCurrent, NoneIsAhead, StaysTogether, TickTogether, clock_after, clocks_after, clocks_of};
+ghost use Rattle.clnp_machine.specs.ClnpNetwork.Run.{Entry, entries_of, full_weight, moves_made, moves_of_plan, run, text_of, until_full, world_after};
+ghost use Rattle.clnp_machine.specs.ClnpNetwork.Safe.{CarriesRanges, EachIsFounded, EachWasSent, FramesAreUnbroken, HoldsUnitsApart, HopsCountCopies, IdentifiersRest, IsHonest, IsSend, NoRefusal, IsWithinBudgets, IsWithinLifetimes, KeepsHeaders, KeepsWhatCame, NoInterference, NoneIsAlien, RedirectsChangeOneNextHop, TellsNoRule};
 ghost use Rattle.clnp_safety.specs.Attached.{IsAttachedThroughout};
 ghost use Rattle.clnp_safety.specs.Invariant.{NetworkIsSound};
-ghost use Rattle.scenario_writing.specs.Scenario.Grammar.{plan_of_version_1};
+ghost use Rattle.scenario.specs.Grammar.{plan_of_version_1};
 ghost use Rattle.clnp_safety.specs.Migrated.{IsMigrated};
 ghost use Rattle.clnp_safety.specs.Growth.{IsFront, IsFullAt, IsWithinCopies, TellsItsCopy};
 ghost use Rattle.clnp_safety.specs.Outside.{CarriesRangesOrOutside, EachHasItsMaker, PdusAreUnbroken};
@@ -334,7 +334,7 @@ pub fn runs_are_safe()
     clocks_go_on_by_moves();
     clocks_that_tick_together_are_one();
     clocks_of_runs_stay_together();
-    clnp_network::laws::the_journal_is_the_text_of_the_run();
+    clnp_machine::clnp_network::laws::the_journal_is_the_text_of_the_run();
 }
 
 /// Whatever frames come from outside, and however the network was changed, each subnetwork of a run has an MTU of at least 512, and
@@ -351,10 +351,10 @@ pub fn attachments_of_runs_are_sound()
 pub fn texts_of_version_1_migrate()
     ensures { (text : List ℕ) → IfOk (plan_of_version_1 text) (IsMigrated text) }
 {
-    scenario_writing::laws::accepted_is_fit();
-    scenario_writing::laws::version_1_is_read_alike();
-    scenario_writing::laws::migrated_is_fit();
-    clnp_network::laws::migrated_scenarios_run_alike();
+    scenario::scenario_writing::laws::accepted_is_fit();
+    scenario::scenario_writing::laws::version_1_is_read_alike();
+    scenario::scenario_writing::laws::migrated_is_fit();
+    clnp_machine::clnp_network::laws::migrated_scenarios_run_alike();
 }
 
 /// What the machine's laws say of each step of a system.

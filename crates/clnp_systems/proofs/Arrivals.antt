@@ -2,23 +2,23 @@
 use Rattle.std.proofs.Common.{◌≡◌, ◌≢◌, ◌∙◌, refl, sym, ap, subst, ℕ, Bool, true, false, Option, Some, None, List, ◌++◌, length, cond, option_map, arith}
 use Rattle.std.specs.Prelude.{◌==◌}
 use Rattle.std.proofs.lemmas.Bool.{ne_eqb}
-use Rattle.clnp_machine.specs.ClnpOptions.declared.judge.OptionRefusal.{OptionRefusal}
-use Rattle.clnp_machine.specs.PduHeader.declared.pdu.Refusal.{Refusal}
-use Rattle.clnp_machine.specs.PduHeader.declared.pdu.Broken.{Broken}
-use Rattle.clnp_machine.specs.PduHeader.declared.pdu.Refusal.TheVariants as refused
+use Rattle.clnp_machine.specs.Pdus.declared.clnp_options.judge.OptionRefusal.{OptionRefusal}
+use Rattle.clnp_machine.specs.Pdus.declared.pdu_header.pdu.Refusal.{Refusal}
+use Rattle.clnp_machine.specs.Pdus.declared.pdu_header.pdu.Broken.{Broken}
+use Rattle.clnp_machine.specs.Pdus.declared.pdu_header.pdu.Refusal.TheVariants as refused
 use Rattle.clnp_machine.specs.PduHeader.Value.{PduValue}
 use Rattle.clnp_machine.specs.PduHeader.Grammar.{BeginsWith}
 use Rattle.clnp_machine.specs.PduHeader.Rules.{octet, refusal}
 use Rattle.clnp_machine.specs.PduHeader.View.{part_value, pdu_value, told, why_refused}
 use Rattle.clnp_machine.specs.PduHeader.Headers.{SpellsHeader}
-use Rattle.clnp_machine.specs.PduHeader.declared.pdu.Pdu.{Pdu}
+use Rattle.clnp_machine.specs.Pdus.declared.pdu_header.pdu.Pdu.{Pdu}
 use Rattle.clnp_systems.specs.Comes.{HasValue}
-use Rattle.clnp_machine.specs.EsisPdus.declared.pdu.EsisRefusal.{EsisRefusal}
+use Rattle.clnp_machine.specs.Pdus.declared.esis_pdus.pdu.EsisRefusal.{EsisRefusal}
 use Rattle.clnp_machine.specs.EsisPdus.Grammar as esis
 use Rattle.clnp_machine.specs.EsisPdus.Rules as esis_rules
 use Rattle.clnp_machine.specs.EsisPdus.Spelling.{spelling}
 use Rattle.clnp_machine.specs.EsisPdus.Value.{EsisValue}
-use Rattle.clnp_machine.specs.EsisTables.declared.fact.Neighbour.{Neighbour}
+use Rattle.clnp_machine.specs.SystemTables.declared.esis_tables.fact.Neighbour.{Neighbour}
 use Rattle.clnp_machine.specs.Unit.{IsCarriable, Packet, value_of, wire}
 use Rattle.clnp_machine.specs.Content.{Content, IsCarried, Labelled, Esis, Unlabelled, frame_of}
 use Rattle.clnp_machine.specs.System.{SystemState}

@@ -3,10 +3,10 @@ use Rattle.std.proofs.Common.{◌≡◌, ◌∙◌, refl, sym, ap, ℕ, Bool, tr
 use Rattle.std.specs.Prelude.{◌==◌, ◌&&◌, is_none, is_some, not}
 use Rattle.clnp_machine.specs.ClnpOptions.Edits.{target_of}
 use Rattle.clnp_machine.specs.ClnpOptions.Parameter.{Parameter}
-use Rattle.clnp_machine.specs.EsisTables.declared.fact.Neighbour.{Neighbour}
-use Rattle.clnp_machine.specs.EsisTables.declared.fact.TableKind.TheVariants.{Es}
+use Rattle.clnp_machine.specs.SystemTables.declared.esis_tables.fact.Neighbour.{Neighbour}
+use Rattle.clnp_machine.specs.SystemTables.declared.esis_tables.fact.TableKind.TheVariants.{Es}
 use Rattle.clnp_machine.specs.EsisTables.NextHop.{current_neighbour}
-use Rattle.clnp_machine.specs.Nsap.declared.target.Target.TheVariants.{System}
+use Rattle.clnp_machine.specs.Pdus.declared.nsap.target.Target.TheVariants.{System}
 use Rattle.clnp_machine.specs.Esis.{redirect}
 use Rattle.clnp_machine.specs.Step.{is_at, is_redirected, redirects}
 use Rattle.clnp_machine.specs.declared.way.Way.{Way}

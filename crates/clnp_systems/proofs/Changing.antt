@@ -10,8 +10,8 @@ use Rattle.clnp_machine.specs.ClnpPlan.declared.config.Role.{Role}
 use Rattle.clnp_machine.specs.ClnpPlan.declared.config.Role.TheVariants.{Host, Router}
 use Rattle.clnp_machine.specs.Forwarding.Setting.{set_in, without}
 use Rattle.clnp_machine.specs.Forwarding.Stands as routing
-use Rattle.clnp_machine.specs.Forwarding.declared.route.Route.{Route}
-use Rattle.clnp_machine.specs.Forwarding.declared.routes.Routes.{Routes}
+use Rattle.clnp_machine.specs.SystemTables.declared.forwarding.route.Route.{Route}
+use Rattle.clnp_machine.specs.SystemTables.declared.forwarding.routes.Routes.{Routes}
 use Rattle.clnp_machine.specs.Step.{as_changed}
 use Rattle.clnp_machine.specs.System.{SystemState}
 use Rattle.clnp_machine.proofs.ClnpBase.ListSteps.{all_set}

@@ -1,8 +1,8 @@
 -- The buffer that a segment makes whole, and the data that are handed up from it.
 use Rattle.std.proofs.Common.{◌≡◌, ℕ, List, Some, refl, sym, subst}
 use Rattle.clnp_machine.specs.ClnpViews.Extent.{Extent}
-use Rattle.clnp_machine.specs.Reassembly.declared.segment.Key.{Key}
-use Rattle.clnp_machine.specs.Reassembly.declared.table.TableLimits.{TableLimits}
+use Rattle.clnp_machine.specs.SystemTables.declared.reassembly.segment.Key.{Key}
+use Rattle.clnp_machine.specs.SystemTables.declared.reassembly.table.TableLimits.{TableLimits}
 use Rattle.clnp_machine.specs.Reassembly.Arrival.{Arrival, octet_in}
 use Rattle.clnp_machine.specs.Reassembly.Buffer.{Buffer, Whole, after, answer, buffer_of, data_of}
 use Rattle.clnp_machine.specs.Reassembly.State.{Names, Stands, TableState}

@@ -3,10 +3,10 @@ use Rattle.std.proofs.Common.{◌≡◌, refl, sym, subst, ℕ, Bool, true, fals
 use Rattle.std.specs.Prelude.{if◌then◌else◌}
 use Rattle.std.specs.List.{list_any}
 use Rattle.std.proofs.lemmas.List.{append-nil}
-use Rattle.clnp_machine.specs.EsisPdus.declared.pdu.EsisBody.{EsisBody}
-use Rattle.clnp_machine.specs.EsisPdus.declared.pdu.EsisBody.TheVariants.{Ish}
-use Rattle.clnp_machine.specs.EsisTables.declared.fact.Neighbour.{Neighbour}
-use Rattle.clnp_machine.specs.EsisTables.declared.fact.TableKind.TheVariants.{Is}
+use Rattle.clnp_machine.specs.Pdus.declared.esis_pdus.pdu.EsisBody.{EsisBody}
+use Rattle.clnp_machine.specs.Pdus.declared.esis_pdus.pdu.EsisBody.TheVariants.{Ish}
+use Rattle.clnp_machine.specs.SystemTables.declared.esis_tables.fact.Neighbour.{Neighbour}
+use Rattle.clnp_machine.specs.SystemTables.declared.esis_tables.fact.TableKind.TheVariants.{Is}
 use Rattle.clnp_machine.specs.ClnpPlan.declared.config.Role.TheVariants.{Host}
 use Rattle.clnp_machine.specs.ClnpPlan.declared.output.Output.{Output}
 use Rattle.clnp_machine.specs.Esis.{answers_new, esis_heard, follows, hears, tells_new, tells_of_itself}

@@ -19,7 +19,7 @@ use Rattle.clnp_systems.specs.EsisState.{EsisState}
 use Rattle.clnp_systems.specs.EsisStands as esis_entity
 use Rattle.clnp_machine.specs.EsisTables.Stands as esis_tables
 use Rattle.clnp_machine.specs.Forwarding.Stands as routing
-use Rattle.clnp_machine.specs.Forwarding.declared.routes.Routes.{Routes}
+use Rattle.clnp_machine.specs.SystemTables.declared.forwarding.routes.Routes.{Routes}
 use Rattle.clnp_machine.specs.EsisTables.Fact.{Fact}
 use Rattle.clnp_systems.specs.LocalState.{EntityState}
 use Rattle.clnp_systems.specs.Local as local_entity

@@ -1,12 +1,12 @@
 -- Buffers whose time has ended are taken out, one after another.
 use Rattle.clnp_machine.specs.ClnpOptions.Reasons.{reason_code}
-use Rattle.clnp_machine.specs.ClnpOptions.declared.reasons.Reason.TheVariants.{LifetimeExpiredInReassembly}
+use Rattle.clnp_machine.specs.Pdus.declared.clnp_options.reasons.Reason.TheVariants.{LifetimeExpiredInReassembly}
 use Rattle.std.proofs.Common.{◌≡◌, ℕ, zero, suc, ◌≤◌, Bool, true, false, cond, List, [], ◌∷◌, ◌++◌, Option, Some, None, refl, sym, ap, ◌∙◌, subst, arith, append_assoc, append-nil}
 use Rattle.std.specs.Prelude.{option_map, slice_get}
 use Rattle.clnp_machine.specs.PduHeader.Rules.{is_reportable}
 use Rattle.clnp_machine.specs.ClnpViews.Extent.{Extent, seen}
-use Rattle.clnp_machine.specs.Reassembly.declared.table.Expired.{Expired}
-use Rattle.clnp_machine.specs.Reassembly.declared.segment.Key.{Key}
+use Rattle.clnp_machine.specs.SystemTables.declared.reassembly.table.Expired.{Expired}
+use Rattle.clnp_machine.specs.SystemTables.declared.reassembly.segment.Key.{Key}
 use Rattle.clnp_machine.specs.Reassembly.Buffer as buffer
 use Rattle.clnp_machine.specs.Reassembly.Buffer.{Buffer, due, first_carried, without, without_due}
 use Rattle.clnp_machine.specs.Reassembly.Mapped.{map_buffer, map_buffers}

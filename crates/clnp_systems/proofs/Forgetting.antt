@@ -2,8 +2,8 @@
 use Rattle.std.proofs.Common.{◌≡◌, ◌∙◌, refl, sym, ap, subst, ℕ, ◌+◌, List, [], ◌∷◌, ◌++◌, map, length, Option, Some, None, append_assoc, length-append, arith}
 use Rattle.std.proofs.lemmas.List.{append-nil, map-append}
 use Rattle.std.proofs.lemmas.Slice.Zip.{AllZip-long}
-use Rattle.clnp_machine.specs.EsisTables.declared.fact.Gone.{Gone}
-use Rattle.clnp_machine.specs.EsisTables.declared.tables.Tables.{Tables}
+use Rattle.clnp_machine.specs.SystemTables.declared.esis_tables.fact.Gone.{Gone}
+use Rattle.clnp_machine.specs.SystemTables.declared.esis_tables.tables.Tables.{Tables}
 use Rattle.clnp_machine.specs.EsisTables.Fact.{Fact}
 use Rattle.clnp_machine.specs.EsisTables.Stands as esis_tables
 use Rattle.clnp_machine.specs.EsisTables.Stands.{FlushesFirst}

@@ -2,17 +2,17 @@
 use Rattle.std.proofs.Common.{◌≡◌, ◌∙◌, refl, sym, ap, subst, ℕ, ◌+◌, ◌-◌, ◌≤◌, Bool, true, false, Option, None, Some, Ok, Err, inr, List, [], ◌∷◌, ◌++◌, map, length, take, drop, if◌then◌else◌, arith, append_assoc}
 use Rattle.std.specs.Prelude.{Result, ◌&&◌, not, is_some, nat_le, slice_get}
 use Rattle.std.proofs.Math.Seq.{drop-append_seam, take-append_seam}
-use Rattle.clnp_machine.specs.EsisTables.declared.fact.Neighbour.{Neighbour}
+use Rattle.clnp_machine.specs.SystemTables.declared.esis_tables.fact.Neighbour.{Neighbour}
 use Rattle.clnp_machine.specs.ClnpOptions.Reasons.{reason_code}
-use Rattle.clnp_machine.specs.ClnpOptions.declared.reasons.Reason.TheVariants.{LifetimeExpiredInTransit, PathNotAcceptable, SegmentationNotPermitted}
+use Rattle.clnp_machine.specs.Pdus.declared.clnp_options.reasons.Reason.TheVariants.{LifetimeExpiredInTransit, PathNotAcceptable, SegmentationNotPermitted}
 use Rattle.clnp_machine.specs.ClnpOptions.Edits.{is_complete, target_of}
 use Rattle.clnp_machine.specs.ClnpOptions.Parameter.{Parameter}
 use Rattle.clnp_machine.specs.ClnpViews.Extent.{Extent, part, seen, whole}
 use Rattle.clnp_machine.specs.PduHeader.Headers.{SpellsHeader, with_lifetime, with_options}
 use Rattle.clnp_machine.specs.PduHeader.Spelling.{header, segment_length}
 use Rattle.clnp_machine.specs.PduHeader.Value.{PduValue}
-use Rattle.clnp_machine.specs.MadePdus.declared.cuts.Cut.{Cut}
-use Rattle.clnp_machine.specs.MadePdus.declared.cuts.NotPermitted.{NotPermitted}
+use Rattle.clnp_machine.specs.Pdus.declared.made_pdus.cuts.Cut.{Cut}
+use Rattle.clnp_machine.specs.Pdus.declared.made_pdus.cuts.NotPermitted.{NotPermitted}
 use Rattle.clnp_machine.specs.MadePdus.Cut as segmenter
 use Rattle.clnp_machine.specs.MadePdus.Cut.{Piece, given}
 use Rattle.clnp_machine.specs.ClnpPlan.declared.config.PortConfig.{PortConfig}

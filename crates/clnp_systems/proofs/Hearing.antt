@@ -3,12 +3,12 @@ use Rattle.std.proofs.Common.{◌≡◌, ◌∙◌, refl, sym, ap, subst, ℕ, f
 use Rattle.std.specs.Prelude.{◌||◌}
 use Rattle.std.specs.List.{list_any}
 use Rattle.std.proofs.lemmas.List.Folds.{list_any-append}
-use Rattle.clnp_machine.specs.EsisTables.declared.fact.Heard.{Heard}
-use Rattle.clnp_machine.specs.EsisTables.declared.fact.Heard.TheVariants.{New, Again, Zero, Full}
-use Rattle.clnp_machine.specs.EsisTables.declared.fact.Neighbour.{Neighbour}
-use Rattle.clnp_machine.specs.EsisTables.declared.fact.TableKind.{TableKind}
-use Rattle.clnp_machine.specs.EsisTables.declared.fact.TableKind.TheVariants.{Es}
-use Rattle.clnp_machine.specs.EsisTables.declared.tables.Tables.{Tables}
+use Rattle.clnp_machine.specs.SystemTables.declared.esis_tables.fact.Heard.{Heard}
+use Rattle.clnp_machine.specs.SystemTables.declared.esis_tables.fact.Heard.TheVariants.{New, Again, Zero, Full}
+use Rattle.clnp_machine.specs.SystemTables.declared.esis_tables.fact.Neighbour.{Neighbour}
+use Rattle.clnp_machine.specs.SystemTables.declared.esis_tables.fact.TableKind.{TableKind}
+use Rattle.clnp_machine.specs.SystemTables.declared.esis_tables.fact.TableKind.TheVariants.{Es}
+use Rattle.clnp_machine.specs.SystemTables.declared.esis_tables.tables.Tables.{Tables}
 use Rattle.clnp_machine.specs.EsisTables.Fact as facts
 use Rattle.clnp_machine.specs.EsisTables.Fact.{Fact}
 use Rattle.clnp_machine.specs.EsisTables.Stands as esis_tables

@@ -2,8 +2,8 @@
 use Rattle.std.proofs.Common.{◌≡◌, ◌∙◌, sym, ap, ℕ, Bool, false, List, Option, None, Some, option_map}
 use Rattle.std.specs.Option.{option_or}
 use Rattle.std.specs.Prelude.{if◌then◌else◌}
-use Rattle.clnp_machine.specs.EsisTables.declared.fact.Neighbour.{Neighbour}
-use Rattle.clnp_machine.specs.EsisTables.declared.fact.TableKind.TheVariants.{Es}
+use Rattle.clnp_machine.specs.SystemTables.declared.esis_tables.fact.Neighbour.{Neighbour}
+use Rattle.clnp_machine.specs.SystemTables.declared.esis_tables.fact.TableKind.TheVariants.{Es}
 use Rattle.clnp_machine.specs.EsisTables.NextHop as heard
 use Rattle.clnp_machine.specs.ClnpPlan.declared.config.Role.{Role}
 use Rattle.clnp_machine.specs.ClnpPlan.declared.config.Role.TheVariants.{Host, Router}
@@ -12,7 +12,7 @@ use Rattle.clnp_machine.specs.declared.way.Way.{Way}
 use Rattle.clnp_machine.specs.System.{SystemState}
 use Rattle.clnp_machine.specs.Unit.{DataUnit}
 use Rattle.clnp_machine.specs.Forwarding.Longest.{longest}
-use Rattle.clnp_machine.specs.Forwarding.declared.route.Route.{Route}
+use Rattle.clnp_machine.specs.SystemTables.declared.forwarding.route.Route.{Route}
 
 -- a host's hop follows from what it heard
 pub of_host : (s : SystemState) (now : ℕ) (to : List ℕ) (neighbour : Option Neighbour) → s.configuration.role ≡ Host → now ≡ s.moment

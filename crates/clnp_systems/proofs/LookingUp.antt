@@ -1,8 +1,8 @@
 -- Which next hop is found.
 use Rattle.std.proofs.Common.{◌≡◌, ◌∙◌, ap, ℕ, List, Option, Some, None}
 use Rattle.std.specs.Option.{option_or}
-use Rattle.clnp_machine.specs.EsisTables.declared.fact.Neighbour.{Neighbour}
-use Rattle.clnp_machine.specs.EsisTables.declared.fact.TableKind.TheVariants.{Es, Rd}
+use Rattle.clnp_machine.specs.SystemTables.declared.esis_tables.fact.Neighbour.{Neighbour}
+use Rattle.clnp_machine.specs.SystemTables.declared.esis_tables.fact.TableKind.TheVariants.{Es, Rd}
 use Rattle.clnp_machine.specs.EsisTables.Fact.{Fact}
 use Rattle.clnp_machine.specs.EsisTables.NextHop.{current_neighbour, last_router, next_hop}
 

@@ -3,11 +3,11 @@ use Rattle.std.proofs.Common.{◌≡◌, ℕ, ◌≤◌, false, List, Option, So
 use Rattle.std.specs.Prelude.{option_map}
 use Rattle.std.specs.List.{AllByRecursion, find}
 use Rattle.clnp_machine.specs.ClnpViews.Extent.{Extent, seen}
-use Rattle.clnp_machine.specs.Reassembly.declared.segment.Key.{Key}
-use Rattle.clnp_machine.specs.Reassembly.declared.segment.Segment.{Segment}
-use Rattle.clnp_machine.specs.Reassembly.declared.table.Accept.{Accept}
-use Rattle.clnp_machine.specs.Reassembly.declared.table.Accept.TheVariants as accept
-use Rattle.clnp_machine.specs.Reassembly.declared.table.TableLimits.{TableLimits}
+use Rattle.clnp_machine.specs.SystemTables.declared.reassembly.segment.Key.{Key}
+use Rattle.clnp_machine.specs.SystemTables.declared.reassembly.segment.Segment.{Segment}
+use Rattle.clnp_machine.specs.SystemTables.declared.reassembly.table.Accept.{Accept}
+use Rattle.clnp_machine.specs.SystemTables.declared.reassembly.table.Accept.TheVariants as accept
+use Rattle.clnp_machine.specs.SystemTables.declared.reassembly.table.TableLimits.{TableLimits}
 use Rattle.clnp_machine.specs.Reassembly.Arrival.{Arrival, arrival_of, octet_in}
 use Rattle.clnp_machine.specs.Reassembly.Buffer as buffer
 use Rattle.clnp_machine.specs.Reassembly.Buffer.{Answer, Buffer, after, answer, buffer_of, data_of, without}
@@ -15,8 +15,8 @@ use Rattle.clnp_machine.specs.Reassembly.Mapped.{map_buffer}
 use Rattle.clnp_machine.specs.Reassembly.State as table
 use Rattle.clnp_machine.specs.Reassembly.State.{IsReady, TableState, said, was_kept}
 use Rattle.clnp_machine.specs.ClnpOptions.Parameter.{Parameter}
-use Rattle.clnp_machine.specs.PduHeader.declared.kind.Kind.{Kind}
-use Rattle.clnp_machine.specs.PduHeader.declared.kind.Kind.TheVariants.{Dt, Er, Erq, Erp}
+use Rattle.clnp_machine.specs.Pdus.declared.pdu_header.kind.Kind.{Kind}
+use Rattle.clnp_machine.specs.Pdus.declared.pdu_header.kind.Kind.TheVariants.{Dt, Er, Erq, Erp}
 use Rattle.clnp_machine.specs.ClnpPlan.declared.note.Note.{Note}
 use Rattle.clnp_machine.specs.Unit.{DataUnit, Packet, wire}
 use Rattle.clnp_machine.specs.Content.{Content}

@@ -2,8 +2,8 @@
 use Rattle.std.proofs.Common.{◌≡◌, ℕ, not, List, [], ◌∷◌, Option, Some, None, inl, inr}
 use Rattle.std.specs.List.{AllByRecursion}
 use Rattle.std.proofs.lemmas.Bool.{cases_Bool}
-use Rattle.clnp_machine.specs.Reassembly.declared.segment.Key.{Key}
-use Rattle.clnp_machine.specs.Reassembly.declared.table.TableLimits.{TableLimits}
+use Rattle.clnp_machine.specs.SystemTables.declared.reassembly.segment.Key.{Key}
+use Rattle.clnp_machine.specs.SystemTables.declared.reassembly.table.TableLimits.{TableLimits}
 use Rattle.clnp_machine.specs.Reassembly.Arrival.{Arrival, same_key}
 use Rattle.clnp_machine.specs.Reassembly.Buffer.{Answer, Buffer, after, buffer_of, buffers_of, refusal, with_kept, without}
 use Rattle.clnp_machine.proofs.ClnpBase.Filters.{AllByRecursion-filter}

@@ -3,8 +3,8 @@ use Rattle.std.proofs.Common.{◌≡◌, ℕ, ◌<◌, Bool, true, Some, None, L
 use Rattle.std.proofs.lemmas.Bool.Decides.{nat_tests}
 use Rattle.clnp_machine.specs.ClnpOptions.Parameter.{parameters, spelled}
 use Rattle.clnp_machine.specs.ClnpOptions.Rules.{IsWellFormed}
-use Rattle.clnp_machine.specs.PduHeader.declared.pdu.SegPart.{SegPart}
-use Rattle.clnp_machine.specs.PduHeader.declared.header.HeaderRefusal.TheVariants.{HeaderTooLong}
+use Rattle.clnp_machine.specs.Pdus.declared.pdu_header.pdu.SegPart.{SegPart}
+use Rattle.clnp_machine.specs.Pdus.declared.pdu_header.header.HeaderRefusal.TheVariants.{HeaderTooLong}
 use Rattle.clnp_machine.specs.PduHeader.Parts.{too_long}
 pub use Rattle.clnp_machine.proofs.PduHeader.Written.{length-header, options_spelled}
 

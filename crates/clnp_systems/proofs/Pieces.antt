@@ -5,7 +5,7 @@ use Rattle.std.specs.declared.result.Result.{Result}
 use Rattle.std.specs.declared.result.Result.TheVariants.{Err, Ok}
 use Rattle.std.proofs.lemmas.List.{map-append, take_all, take_at}
 use Rattle.clnp_machine.specs.ClnpViews.Extent.{Extent, seen}
-use Rattle.clnp_machine.specs.MadePdus.declared.cuts.Cut.{Cut}
+use Rattle.clnp_machine.specs.Pdus.declared.made_pdus.cuts.Cut.{Cut}
 use Rattle.clnp_machine.specs.ClnpPlan.declared.output.Output.{Output}
 use Rattle.clnp_machine.specs.ClnpPlan.declared.output.Output.TheVariants.{Transmit}
 use Rattle.clnp_machine.specs.ClnpPlan.declared.output.Sending.{Sending}

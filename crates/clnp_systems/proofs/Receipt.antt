@@ -2,7 +2,7 @@
 use Rattle.std.proofs.Common.{◌≡◌, ◌∙◌, refl, ap, ℕ, Bool, true, false, List, ◌++◌, if◌then◌else◌}
 use Rattle.std.specs.Prelude.{◌==◌, ◌&&◌, not}
 use Rattle.std.proofs.lemmas.List.{append-nil}
-use Rattle.clnp_machine.specs.EsisTables.declared.fact.Neighbour.{Neighbour}
+use Rattle.clnp_machine.specs.SystemTables.declared.esis_tables.fact.Neighbour.{Neighbour}
 use Rattle.clnp_machine.specs.ClnpPlan.declared.config.Role.{Role}
 use Rattle.clnp_machine.specs.ClnpPlan.declared.config.Role.TheVariants.{Host, Router}
 use Rattle.clnp_machine.specs.Content.{Labelled}
@@ -12,7 +12,7 @@ use Rattle.clnp_machine.specs.Step.{content_comes, effect_of, is_asked_for, pack
 use Rattle.clnp_machine.specs.System.{SystemState, Effect, idles}
 use Rattle.clnp_machine.specs.Unit.{Packet}
 use Rattle.clnp_machine.specs.ClnpOptions.Reasons.{reason_code}
-use Rattle.clnp_machine.specs.ClnpOptions.declared.reasons.Reason.TheVariants.{LifetimeExpiredInTransit}
+use Rattle.clnp_machine.specs.Pdus.declared.clnp_options.reasons.Reason.TheVariants.{LifetimeExpiredInTransit}
 use Rattle.clnp_machine.proofs.ClnpBase.Choices.{one_of}
 
 -- ---- answers to a group

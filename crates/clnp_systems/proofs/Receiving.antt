@@ -5,8 +5,8 @@ use Rattle.std.proofs.lemmas.Bool.{cases_Bool, ltb-false, ltb-true}
 use Rattle.std.proofs.lemmas.List.{length-take-le, take_at}
 use Rattle.clnp_machine.specs.ClnpOptions.Parameter.{parameters}
 use Rattle.clnp_machine.specs.ClnpViews.Extent.{seen}
-use Rattle.clnp_machine.specs.PduHeader.declared.pdu.Pdu.{Pdu}
-use Rattle.clnp_machine.specs.PduHeader.declared.pdu.SegPart.{SegPart}
+use Rattle.clnp_machine.specs.Pdus.declared.pdu_header.pdu.Pdu.{Pdu}
+use Rattle.clnp_machine.specs.Pdus.declared.pdu_header.pdu.SegPart.{SegPart}
 use Rattle.clnp_machine.specs.PduHeader.Grammar.{BeginsWith, FitsUnit, IsSegment}
 use Rattle.clnp_machine.specs.PduHeader.Spelling.{header, header_length, type_code}
 use Rattle.clnp_machine.specs.PduHeader.Value.{PduValue, SegmentationPart}

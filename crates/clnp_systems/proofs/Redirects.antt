@@ -1,9 +1,9 @@
 -- Redirects that aren't heard.
 use Rattle.std.proofs.Common.{arith, ◌≡◌, ◌≤◌, ◌∙◌, sym, ap, subst, ℕ, Bool, true, false, List, [], ◌∷◌, Result, None}
 use Rattle.std.specs.Prelude.{if◌then◌else◌, OnOk}
-use Rattle.clnp_machine.specs.EsisTables.declared.fact.Gone.{Gone}
-use Rattle.clnp_machine.specs.EsisTables.declared.fact.Neighbour.{Neighbour}
-use Rattle.clnp_machine.specs.EsisTables.declared.fact.TableKind.TheVariants.{Rd}
+use Rattle.clnp_machine.specs.SystemTables.declared.esis_tables.fact.Gone.{Gone}
+use Rattle.clnp_machine.specs.SystemTables.declared.esis_tables.fact.Neighbour.{Neighbour}
+use Rattle.clnp_machine.specs.SystemTables.declared.esis_tables.fact.TableKind.TheVariants.{Rd}
 use Rattle.clnp_machine.specs.EsisTables.Fact.{Fact}
 use Rattle.clnp_machine.specs.EsisTables.NextHop.{is_router}
 use Rattle.clnp_machine.specs.EsisTables.Stands as esis_tables

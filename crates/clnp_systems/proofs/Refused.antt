@@ -8,7 +8,7 @@ use Rattle.clnp_machine.specs.ClnpPlan.declared.output.Output.{Output}
 use Rattle.clnp_machine.specs.ClnpPlan.declared.output.Output.TheVariants.{Note as Told}
 use Rattle.clnp_machine.specs.Local as locally
 use Rattle.clnp_machine.specs.Local.{Deed}
-use Rattle.clnp_machine.specs.PduHeader.declared.kind.Kind.{Kind}
+use Rattle.clnp_machine.specs.Pdus.declared.pdu_header.kind.Kind.{Kind}
 use Rattle.clnp_machine.specs.System.{SystemState}
 use Rattle.clnp_systems.specs.Local.{IsWhy, refusal_note}
 use Rattle.clnp_systems.proofs.Echoing.{says_why}

@@ -5,8 +5,8 @@ use Rattle.std.specs.List.{find, position_from, remove}
 use Rattle.std.specs.Str.{bytes_eq}
 use Rattle.std.proofs.lemmas.Bool.{cases_Bool, ltb-false, ltb-true}
 use Rattle.clnp_machine.specs.ClnpViews.Extent.{seen}
-use Rattle.clnp_machine.specs.PduHeader.declared.kind.Kind.{Kind}
-use Rattle.clnp_machine.specs.PduHeader.declared.kind.Kind.TheVariants.{Dt, Er, Erq, Erp}
+use Rattle.clnp_machine.specs.Pdus.declared.pdu_header.kind.Kind.{Kind}
+use Rattle.clnp_machine.specs.Pdus.declared.pdu_header.kind.Kind.TheVariants.{Dt, Er, Erq, Erp}
 use Rattle.clnp_machine.specs.MadePdus.Match.{echoes}
 use Rattle.clnp_machine.specs.Unit.{DataUnit}
 use Rattle.clnp_machine.specs.Local.{is_answer, with_made, within_most, without_answered}

@@ -10,8 +10,8 @@ use Rattle.clnp_machine.specs.PduHeader.Value.{PduValue}
 use Rattle.clnp_machine.specs.PduHeader.Spelling.{header, segment_length, spelling}
 use Rattle.clnp_machine.specs.PduHeader.Grammar.{IsPdu}
 use Rattle.clnp_machine.specs.PduHeader.Headers.{SpellsHeader}
-use Rattle.clnp_machine.specs.MadePdus.declared.cuts.Cut.{Cut}
-use Rattle.clnp_machine.specs.MadePdus.declared.cuts.NotPermitted.{NotPermitted}
+use Rattle.clnp_machine.specs.Pdus.declared.made_pdus.cuts.Cut.{Cut}
+use Rattle.clnp_machine.specs.Pdus.declared.made_pdus.cuts.NotPermitted.{NotPermitted}
 use Rattle.clnp_machine.specs.MadePdus.Cut as segmenter
 use Rattle.clnp_machine.specs.MadePdus.Cut.{Piece, given}
 use Rattle.clnp_machine.proofs.ClnpBase.Lists.{part_of_part}
@@ -22,7 +22,7 @@ use Rattle.clnp_machine.specs.ClnpPlan.declared.output.Output.TheVariants.{Note 
 use Rattle.clnp_machine.specs.Unit.{IsCarriable, Packet, DataUnit, cut, value_of, whole_packet, wire}
 use Rattle.clnp_machine.specs.System.{SystemState, Transmits}
 use Rattle.clnp_machine.specs.ClnpOptions.Reasons.{reason_code}
-use Rattle.clnp_machine.specs.ClnpOptions.declared.reasons.Reason.TheVariants.{SegmentationNotPermitted}
+use Rattle.clnp_machine.specs.Pdus.declared.clnp_options.reasons.Reason.TheVariants.{SegmentationNotPermitted}
 use Rattle.clnp_machine.specs.Step.{first_sent, no_way, sent_on, transmissions}
 use Rattle.clnp_machine.specs.declared.way.Hop.{Hop}
 use Rattle.clnp_machine.specs.Given.{Appends, GiveAll, IsSentFor}

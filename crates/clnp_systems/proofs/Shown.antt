@@ -3,8 +3,8 @@ use Rattle.std.proofs.Common.{◌≡◌, ℕ, List, length, sym, ap, ◌∙◌}
 use Rattle.std.specs.Prelude.{option_map}
 use Rattle.std.proofs.lemmas.List.{length-map}
 use Rattle.clnp_machine.specs.ClnpViews.Extent.{Extent, seen}
-use Rattle.clnp_machine.specs.Reassembly.declared.segment.Key.{Key}
-use Rattle.clnp_machine.specs.Reassembly.declared.table.TableLimits.{TableLimits}
+use Rattle.clnp_machine.specs.SystemTables.declared.reassembly.segment.Key.{Key}
+use Rattle.clnp_machine.specs.SystemTables.declared.reassembly.table.TableLimits.{TableLimits}
 use Rattle.clnp_machine.specs.Reassembly.Arrival.{Arrival}
 use Rattle.clnp_machine.specs.Reassembly.Buffer.{Buffer, after, answer, buffer_of, due, without}
 use Rattle.clnp_machine.specs.Reassembly.Mapped.{map_arrival, map_buffer, map_buffers}

@@ -1,7 +1,7 @@
 -- What a contract sees of the entity of a system.
 use Rattle.std.specs.Prelude.{ℕ, Bool, List}
 use Rattle.clnp_machine.specs.ClnpPlan.declared.config.PortConfig.{PortConfig}
-use Rattle.clnp_machine.specs.Forwarding.declared.routes.Routes.{Routes}
+use Rattle.clnp_machine.specs.SystemTables.declared.forwarding.routes.Routes.{Routes}
 use Rattle.clnp_systems.specs.EsisState.{EsisState}
 use Rattle.clnp_systems.specs.LocalState.{EntityState}
 

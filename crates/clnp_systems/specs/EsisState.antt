@@ -1,6 +1,6 @@
 -- What a contract sees of the configuration entity of a system.
 use Rattle.std.specs.Prelude.{ℕ}
-use Rattle.clnp_machine.specs.EsisTables.declared.tables.Tables.{Tables}
+use Rattle.clnp_machine.specs.SystemTables.declared.esis_tables.tables.Tables.{Tables}
 
 pub record EsisState : Type 0 where
   pub tables : Tables

@@ -1,14 +1,14 @@
 -- PDUs that come: what their units are for, whether one is all of its unit, the segment of the code that it is, and the arrival of the model.
 use Rattle.std.specs.Prelude.{◌≡◌, ℕ, ◌+◌, ◌==◌, ◌&&◌, not, if◌then◌else◌, Bool, List, length, Option, None, Some}
 use Rattle.clnp_machine.specs.ClnpViews.Extent.{Extent, part, seen, whole}
-use Rattle.clnp_machine.specs.PduHeader.declared.pdu.Pdu.{Pdu}
-use Rattle.clnp_machine.specs.PduHeader.declared.pdu.SegPart.{SegPart}
-use Rattle.clnp_machine.specs.PduHeader.declared.kind.Kind.{Kind}
-use Rattle.clnp_machine.specs.PduHeader.declared.kind.Kind.TheVariants.{Dt, Er, Erq, Erp}
+use Rattle.clnp_machine.specs.Pdus.declared.pdu_header.pdu.Pdu.{Pdu}
+use Rattle.clnp_machine.specs.Pdus.declared.pdu_header.pdu.SegPart.{SegPart}
+use Rattle.clnp_machine.specs.Pdus.declared.pdu_header.kind.Kind.{Kind}
+use Rattle.clnp_machine.specs.Pdus.declared.pdu_header.kind.Kind.TheVariants.{Dt, Er, Erq, Erp}
 use Rattle.clnp_machine.specs.PduHeader.Spelling.{type_code}
 use Rattle.clnp_machine.specs.ClnpOptions.Parameter.{Parameter}
 use Rattle.clnp_machine.specs.MadePdus.Told.{cause_in, place_in}
-use Rattle.clnp_machine.specs.Reassembly.declared.segment.Segment.{Segment}
+use Rattle.clnp_machine.specs.SystemTables.declared.reassembly.segment.Segment.{Segment}
 use Rattle.clnp_machine.specs.Reassembly.Arrival.{Arrival, arrival_of, octet_in}
 use Rattle.clnp_machine.specs.Reassembly.Buffer.{Answer, Buffer, Held, Whole, Interference, Repeat, NoSlot, Crowded, Many, buffer_of, data_of}
 use Rattle.clnp_machine.specs.Reassembly.Mapped.{map_arrival}

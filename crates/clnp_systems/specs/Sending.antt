@@ -1,7 +1,7 @@
 -- The pieces of a PDU, as the code gives them out.
 use Rattle.std.specs.Prelude.{◌++◌, Bool}
 use Rattle.clnp_machine.specs.ClnpViews.Extent.{Extent, part, seen}
-use Rattle.clnp_machine.specs.MadePdus.declared.cuts.Cut.{Cut}
+use Rattle.clnp_machine.specs.Pdus.declared.made_pdus.cuts.Cut.{Cut}
 use Rattle.clnp_machine.specs.ClnpPlan.declared.output.Output.{Output}
 use Rattle.clnp_machine.specs.ClnpPlan.declared.output.Output.TheVariants.{Transmit}
 use Rattle.clnp_machine.specs.ClnpPlan.declared.output.Sending.{Sending}

@@ -15,9 +15,9 @@ ghost use Rattle.clnp_machine.specs.Local.{has_address, restarted};
 ghost use Rattle.clnp_machine.specs.Step.{congest, effect_of, next_hop, way_of};
 ghost use Rattle.clnp_machine.specs.Esis.{redirect};
 ghost use Rattle.clnp_machine.specs.System.{SystemState, MomentComes, SendsEsis, first_state, next_number};
-ghost use Rattle.clnp_machine.specs.EsisTables.declared.fact.TableKind.TheVariants.{Es};
+ghost use Rattle.clnp_machine.specs.SystemTables.declared.esis_tables.fact.TableKind.TheVariants.{Es};
 ghost use Rattle.clnp_machine.specs.EsisTables.NextHop.{current_neighbour};
-ghost use Rattle.clnp_machine.specs.Nsap.declared.target.Target.TheVariants.{System};
+ghost use Rattle.clnp_machine.specs.Pdus.declared.nsap.target.Target.TheVariants.{System};
 ghost use Rattle.clnp_systems.specs.Local.{IsWhy};
 ghost use Rattle.clnp_systems.specs.Sending.{transmission};
 ghost use Rattle.clnp_machine.specs.MadePdus.Left.{IsCutOf};
@@ -75,7 +75,7 @@ pub struct SystemEntity {
 
 impl Model for SystemEntity {
     ghost use Rattle.std.specs.Coded.{codes};
-    ghost use Rattle.clnp_machine.specs.Forwarding.contracts.routes.Routes.{the_row as row_of_routes};
+    ghost use Rattle.clnp_machine.specs.SystemTables.contracts.forwarding.routes.Routes.{the_row as row_of_routes};
     ghost use Rattle.clnp_systems.specs.EntityState.{SystemEntityState};
     ghost use Rattle.clnp_systems.specs.EntityStands.{IsSound};
 

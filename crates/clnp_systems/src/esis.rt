@@ -3,7 +3,7 @@ ghost use Rattle.std.specs.Prelude.{◌≡◌, ◌≤◌, ◌<◌, ◌^◌, ℕ,
 ghost use Rattle.clnp_machine.specs.ClnpOptions.Parameter.{parameters};
 ghost use Rattle.clnp_machine.specs.EsisPdus.Value.{suggested};
 ghost use Rattle.clnp_machine.specs.EsisPdus.View.{pdu_value};
-ghost use Rattle.clnp_machine.specs.EsisTables.declared.fact.TableKind.TheVariants.{Es};
+ghost use Rattle.clnp_machine.specs.SystemTables.declared.esis_tables.fact.TableKind.TheVariants.{Es};
 ghost use Rattle.clnp_machine.specs.EsisTables.NextHop as heard;
 ghost use Rattle.clnp_machine.specs.Esis.{esis_comes, forgets, says_hello, tells_of_itself};
 ghost use Rattle.clnp_machine.specs.Given.{Appends};

@@ -1,7 +1,7 @@
 //! What a router tells of better ways (ISO 9542, section 6.8).
 ghost use Rattle.std.specs.Prelude.{◌≡◌, ◌∷◌, [], OnOk, OnErr, ℕ, None};
 ghost use Rattle.std.specs.Option.{option_copied};
-ghost use Rattle.clnp_machine.specs.Nsap.declared.target.Target.TheVariants.{System};
+ghost use Rattle.clnp_machine.specs.Pdus.declared.nsap.target.Target.TheVariants.{System};
 ghost use Rattle.clnp_machine.specs.Esis.{redirect};
 ghost use Rattle.clnp_machine.specs.Given.{Appends};
 ghost use Rattle.clnp_machine.specs.System.{SystemState, SendsEsis};

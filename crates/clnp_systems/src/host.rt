@@ -3,7 +3,7 @@ ghost use Rattle.std.specs.Prelude.{◌≡◌, ◌≤◌, ◌<◌, ◌+◌, ◌^
 ghost use Rattle.std.specs.List.{AllByRecursion};
 ghost use Rattle.clnp_machine.specs.ClnpOptions.Grammar.{FitsKind};
 ghost use Rattle.clnp_machine.specs.ClnpOptions.Parameter.{parameters};
-ghost use Rattle.clnp_machine.specs.PduHeader.declared.kind.Kind.TheVariants.{Dt};
+ghost use Rattle.clnp_machine.specs.Pdus.declared.pdu_header.kind.Kind.TheVariants.{Dt};
 ghost use Rattle.clnp_machine.specs.Reassembly.Buffer.{held};
 ghost use Rattle.clnp_machine.specs.Change.{PortIsAt, PortTakes, ports_taking};
 ghost use Rattle.clnp_machine.specs.ClnpPlan.Configuration.{IsPort};

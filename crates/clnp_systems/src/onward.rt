@@ -5,7 +5,7 @@ ghost use Rattle.clnp_machine.specs.Step.{goes_on_by, options_behind};
 ghost use Rattle.clnp_machine.specs.PduHeader.Headers.{SpellsHeader, with_options};
 ghost use Rattle.clnp_machine.specs.System.{SystemState};
 ghost use Rattle.clnp_machine.specs.Unit.{IsCarriable, Packet, value_of};
-ghost use Rattle.clnp_machine.specs.EsisTables.declared.fact.Neighbour.{Neighbour};
+ghost use Rattle.clnp_machine.specs.SystemTables.declared.esis_tables.fact.Neighbour.{Neighbour};
 ghost use Rattle.clnp_systems.specs.Comes.{HasValue};
 ghost use Rattle.clnp_systems.specs.Router.Onward.{ComesTo, IsHeaderOver, life_left};
 

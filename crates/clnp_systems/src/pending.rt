@@ -3,7 +3,7 @@ ghost use Rattle.std.specs.Prelude.{◌≡◌, ◌<◌, [], List, IfOk, Some, le
 ghost use Rattle.std.specs.List.{find, position_from, remove};
 ghost use Rattle.clnp_machine.specs.ClnpViews.Extent.{seen};
 ghost use Rattle.clnp_machine.specs.MadePdus.Match.{echoes};
-ghost use Rattle.clnp_machine.specs.PduHeader.declared.kind.Kind.{Kind as KindOf};
+ghost use Rattle.clnp_machine.specs.Pdus.declared.pdu_header.kind.Kind.{Kind as KindOf};
 ghost use Rattle.clnp_machine.specs.Unit.{DataUnit};
 ghost use Rattle.clnp_machine.specs.Local.{is_answer, with_made, without_answered};
 ghost use Rattle.clnp_systems.specs.Local.{AreRequests, IsRequest};

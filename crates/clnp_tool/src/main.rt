@@ -9,10 +9,10 @@ use crate::arguments::words;
 use crate::opening::open;
 use clnp_program::base::{HalfSeconds, StdSink, StdSource};
 use clnp_program::{Status, end, end_without_link, link_places, run};
+use frame_links::udp_links::links::{Board, Link};
+use frame_links::udp_links::{LinkFault, Traffic};
 use std::io;
 use std::process::ExitCode;
-use udp_links::links::{Board, Link};
-use udp_links::{LinkFault, Traffic};
 
 fn main(rt: HostRuntime) -> ExitCode {
     let alloc = rt.alloc();

@@ -1,8 +1,8 @@
 //! The links of the command line.
+use frame_links::udp_links::words::is_link_word;
+use frame_links::udp_links::{LinkFault, Traffic, UdpLink};
 use std::net::Net;
 use std::rt::Clock;
-use udp_links::words::is_link_word;
-use udp_links::{LinkFault, Traffic, UdpLink};
 
 /// The link of the word at a place, of this traffic.
 ///

@@ -12,11 +12,11 @@ use Rattle.clnp_machine.specs.ClnpPlan.declared.config.Role.{Role}
 use Rattle.clnp_machine.specs.ClnpPlan.declared.config.Role.TheVariants.{Host, Router}
 use Rattle.clnp_machine.specs.ClnpPlan.declared.note.Note.{Note}
 use Rattle.clnp_machine.specs.ClnpPlan.declared.note.Note.TheVariants as note
-use Rattle.clnp_machine.specs.Forwarding.declared.route.Route.{Route}
+use Rattle.clnp_machine.specs.SystemTables.declared.forwarding.route.Route.{Route}
 use Rattle.clnp_machine.specs.Step.{step}
 use Rattle.clnp_machine.specs.System.{IsChanged, SystemState}
-use Rattle.clnp_network.specs.ScenarioPlan.Plan.{Subnetwork}
-use Rattle.clnp_network.specs.LabelledNetwork as network
+use Rattle.clnp_machine.specs.ScenarioPlan.Plan.{Subnetwork}
+use Rattle.clnp_machine.specs.ClnpNetwork.LabelledNetwork as network
 use Rattle.clnp_systems.specs.Stands as clnp_systems
 use Rattle.clnp_systems.specs.declared.system.System.{System}
 use Rattle.clnp_world.specs.Changing.{GoesTo, MovesPort, RemovesRoute, SetsRoute, TakesAsPort, TakesMtu, TakesWhereOn}

@@ -10,7 +10,7 @@ use Rattle.clnp_machine.specs.ClnpPlan.declared.config.Limits.{Limits}
 use Rattle.clnp_machine.specs.Content.{IsCarried}
 use Rattle.clnp_machine.specs.System.{FrameComes, SystemState}
 use Rattle.clnp_machine.specs.Step.{step}
-use Rattle.clnp_network.specs.LabelledNetwork as network
+use Rattle.clnp_machine.specs.ClnpNetwork.LabelledNetwork as network
 use Rattle.clnp_world.specs.Lines.{Gains, Taken}
 use Rattle.clnp_world.specs.Seen.{IsNextAddressee, IsPortFor, frame_copy, origin_of}
 use Rattle.clnp_world.specs.Parts.{Shows, Holds, IsRunning, Follows}

@@ -3,15 +3,15 @@ use Rattle.std.proofs.Common.{◌≡◌, ◌≤◌, ◌+◌, ◌∙◌, ℕ, con
 use Rattle.std.specs.Prelude.{is_none, slice_get}
 use Rattle.std.proofs.lemmas.Option.{slice_get_past}
 use Rattle.hex.specs.Hex.{IsBytes}
-use Rattle.clnp_machine.specs.Nsap.declared.target.Target.{Target}
+use Rattle.clnp_machine.specs.Pdus.declared.nsap.target.Target.{Target}
 use Rattle.clnp_machine.specs.EsisPdus.Reading as esis_reading
 use Rattle.clnp_machine.specs.EsisPdus.Rules.{why_refused}
 use Rattle.clnp_machine.specs.PduHeader.Reading.{rest_of}
 use Rattle.clnp_machine.specs.ClnpPlan.Journal.{Injected, Line}
 use Rattle.clnp_machine.specs.Content.{Esis, IsCarried, Labelled, Unlabelled, content_of, esis_value_in, frame_of, is_accepted, packet_from_outside, value_in}
 use Rattle.clnp_machine.specs.Unit.{Outside}
-use Rattle.clnp_network.specs.LabelledNetwork as network
-use Rattle.clnp_network.specs.ScenarioPlan.Plan.{Subnetwork}
+use Rattle.clnp_machine.specs.ClnpNetwork.LabelledNetwork as network
+use Rattle.clnp_machine.specs.ScenarioPlan.Plan.{Subnetwork}
 use Rattle.clnp_world.specs.Lines.{Gains, Taken}
 use Rattle.clnp_world.specs.Seen.{frame_copy, origin_of}
 use Rattle.clnp_world.specs.Stands.{IsMadeWithUnit}

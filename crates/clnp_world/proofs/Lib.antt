@@ -13,3 +13,4 @@ pub mod TickSteps
 pub mod ChangeSteps
 pub mod ResizeSteps
 pub mod WorldSteps
+pub mod NetworkCommands

@@ -2,7 +2,7 @@
 use Rattle.std.proofs.Common.{◌≡◌, ℕ, ◌+◌, List, [], ◌++◌, codes, refl, sym, ap, ◌∙◌, append-nil, append_assoc, arith}
 use Rattle.std.specs.Str.{bytes_eq}
 use Rattle.clnp_machine.specs.ClnpPlan.Journal.{Line}
-use Rattle.clnp_network.specs.Run.{told_lines}
+use Rattle.clnp_machine.specs.ClnpNetwork.Run.{told_lines}
 use Rattle.clnp_world.specs.Lines.{Counted, Gains, Taken, Written, both, gained, how_many, kind_of, no_lines, tally}
 use Rattle.clnp_world.specs.declared.lines.Counts.{Counts}
 use Rattle.clnp_world.proofs.ModelSteps.{told_lines-append}

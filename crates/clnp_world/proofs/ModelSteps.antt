@@ -12,14 +12,14 @@ use Rattle.clnp_machine.specs.ClnpPlan.declared.journal.Telling.{Telling}
 use Rattle.clnp_machine.specs.ClnpPlan.declared.config.Limits.{Limits}
 use Rattle.clnp_machine.specs.ClnpPlan.declared.config.PortConfig.{PortConfig}
 use Rattle.clnp_machine.specs.ClnpPlan.declared.config.Role.{Role}
-use Rattle.clnp_machine.specs.Nsap.declared.target.Target.{Target}
+use Rattle.clnp_machine.specs.Pdus.declared.nsap.target.Target.{Target}
 use Rattle.clnp_machine.specs.Content.{Content, Esis, Labelled}
 use Rattle.clnp_machine.specs.Unit.{DeclaredAt, Maker, Outside}
 use Rattle.clnp_machine.specs.System.{SystemState, Output, Transmits, SendsEsis, Notes, Effect, first_state}
 use Rattle.clnp_machine.specs.Step.{step}
-use Rattle.clnp_network.specs.Clocks.{NoneIsAhead}
-use Rattle.clnp_network.specs.LabelledNetwork as network
-use Rattle.clnp_network.specs.Run.{told_lines}
+use Rattle.clnp_machine.specs.ClnpNetwork.Clocks.{NoneIsAhead}
+use Rattle.clnp_machine.specs.ClnpNetwork.LabelledNetwork as network
+use Rattle.clnp_machine.specs.ClnpNetwork.Run.{told_lines}
 use Rattle.clnp_world.specs.Seen.{IsPortFor}
 use Rattle.clnp_machine.proofs.ClnpBase.ListSteps.{slice_get_front, take_push, map_set, all_set, range_push}
 pub use Rattle.clnp_machine.proofs.Deeds.{step_attached, step_itself, step_moment}

@@ -5,7 +5,7 @@ use Rattle.std.specs.List.{AllByRecursion}
 use Rattle.std.proofs.lemmas.List.{length-map, map-append}
 use Rattle.std.proofs.lemmas.List.Sums.{sum_by-append}
 use Rattle.std.proofs.lemmas.Option.{slice_get_past, slice_get_read}
-use Rattle.clnp_machine.specs.Nsap.declared.target.Target.{Target}
+use Rattle.clnp_machine.specs.Pdus.declared.nsap.target.Target.{Target}
 use Rattle.clnp_machine.specs.PduHeader.Spelling.{header}
 use Rattle.clnp_machine.proofs.PduHeader.Written.{length-header}
 use Rattle.clnp_machine.specs.EsisPdus.Grammar.{IsPdu}
@@ -22,7 +22,7 @@ use Rattle.clnp_machine.specs.Unit.{DataUnit, DeclaredAt, Maker, Packet, value_o
 use Rattle.clnp_machine.specs.Content.{Content, Esis, IsCarried, Labelled, Unlabelled, frame_of}
 use Rattle.clnp_machine.specs.System.{SystemState, Output, Transmits, SendsEsis, Notes}
 use Rattle.clnp_machine.specs.Ways.{IsOwnWhereFirst}
-use Rattle.clnp_network.specs.LabelledNetwork as network
+use Rattle.clnp_machine.specs.ClnpNetwork.LabelledNetwork as network
 use Rattle.clnp_systems.specs.declared.system.System.{System}
 use Rattle.clnp_machine.specs.Given.{CarriesUnit, GiveAll, Gives}
 use Rattle.clnp_world.specs.Lines.{Gains, Taken}

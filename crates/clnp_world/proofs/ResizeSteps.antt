@@ -7,9 +7,9 @@ use Rattle.clnp_machine.specs.Change.{Change, PortTakes, changed, ports_taking, 
 use Rattle.clnp_machine.specs.ClnpPlan.declared.config.PortConfig.{PortConfig}
 use Rattle.clnp_machine.specs.Step.{step}
 use Rattle.clnp_machine.specs.System.{IsChanged, SystemState}
-use Rattle.clnp_network.specs.ScenarioPlan.Plan.{Subnetwork}
-use Rattle.clnp_network.specs.LabelledNetwork as network
-use Rattle.clnp_network.specs.LabelledNetwork.{LabelledNetwork, ports_of}
+use Rattle.clnp_machine.specs.ScenarioPlan.Plan.{Subnetwork}
+use Rattle.clnp_machine.specs.ClnpNetwork.LabelledNetwork as network
+use Rattle.clnp_machine.specs.ClnpNetwork.LabelledNetwork.{LabelledNetwork, ports_of}
 use Rattle.clnp_world.specs.Changed.{FitsEachPort, fitted, port_at}
 use Rattle.clnp_machine.proofs.ClnpBase.Lists.{slice_get-set, slice_get-set_other}
 

@@ -7,7 +7,7 @@ use Rattle.clnp_machine.specs.ClnpPlan.declared.config.Role.{Role}
 use Rattle.clnp_machine.specs.ClnpPlan.declared.config.Role.TheVariants.{Host, Router}
 use Rattle.clnp_machine.specs.System.{SystemState, Input}
 use Rattle.clnp_systems.specs.declared.system.System.{System}
-use Rattle.clnp_network.specs.LabelledNetwork as network
+use Rattle.clnp_machine.specs.ClnpNetwork.LabelledNetwork as network
 use Rattle.clnp_systems.specs.Stands.{configuration_of}
 use Rattle.clnp_world.specs.Lines.{Taken}
 use Rattle.clnp_world.specs.Parts.{Follows, Holds}

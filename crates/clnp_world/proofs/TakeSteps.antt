@@ -10,8 +10,8 @@ use Rattle.clnp_machine.specs.System as machine
 use Rattle.clnp_machine.specs.System.{SystemState, Effect}
 use Rattle.clnp_machine.specs.Step.{step}
 use Rattle.clnp_machine.specs.EveryStep.{moment_after}
-use Rattle.clnp_network.specs.Clocks.{NoneIsAhead}
-use Rattle.clnp_network.specs.LabelledNetwork as network
+use Rattle.clnp_machine.specs.ClnpNetwork.Clocks.{NoneIsAhead}
+use Rattle.clnp_machine.specs.ClnpNetwork.LabelledNetwork as network
 use Rattle.clnp_systems.specs.declared.system.System.{System}
 use Rattle.clnp_systems.specs.Stands as clnp_systems
 use Rattle.clnp_systems.specs.Stands.{entity_of}

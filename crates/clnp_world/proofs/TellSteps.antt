@@ -8,8 +8,8 @@ use Rattle.clnp_machine.specs.ClnpPlan.Journal.{Line, Late, Received}
 use Rattle.clnp_machine.specs.ClnpPlan.declared.config.Limits.{Limits}
 use Rattle.clnp_machine.specs.System.{SystemState, Output, Transmits, SendsEsis, Notes, Effect}
 use Rattle.clnp_machine.specs.Step.{step}
-use Rattle.clnp_network.specs.LabelledNetwork as network
-use Rattle.clnp_network.specs.LabelledNetwork.{LabelledNetwork, Copy, Numbered, addressees_from, first_port, for_nobody, frame_to, give, give_each, give_to, hand_to, is_addressee, is_late, put_all_out, put_out, settle_copy, lose_copy, takes_effect, with_effect}
+use Rattle.clnp_machine.specs.ClnpNetwork.LabelledNetwork as network
+use Rattle.clnp_machine.specs.ClnpNetwork.LabelledNetwork.{LabelledNetwork, Copy, Numbered, addressees_from, first_port, for_nobody, frame_to, give, give_each, give_to, hand_to, is_addressee, is_late, put_all_out, put_out, settle_copy, lose_copy, takes_effect, with_effect}
 use Rattle.clnp_world.specs.Becoming.{GivesAsTold, TellsOnce, addressees_of, or_nobody, tells_of_copy, told_of_settled, told_to, told_to_each}
 use Rattle.clnp_world.proofs.ModelSteps.{Seat, seat_of, same_age, same_seat, seats-give, clock-give, cursor-give_each}
 

@@ -6,8 +6,8 @@ use Rattle.std.proofs.lemmas.Option.{slice_get_past}
 use Rattle.clnp_machine.specs.System.{Input, SystemState, MomentComes}
 use Rattle.clnp_machine.specs.Step.{step}
 use Rattle.clnp_machine.specs.Unit.{DeclaredAt, Maker, Outside}
-use Rattle.clnp_network.specs.Clocks.{NoneIsAhead}
-use Rattle.clnp_network.specs.LabelledNetwork as network
+use Rattle.clnp_machine.specs.ClnpNetwork.Clocks.{NoneIsAhead}
+use Rattle.clnp_machine.specs.ClnpNetwork.LabelledNetwork as network
 use Rattle.clnp_systems.specs.declared.system.System.{System}
 use Rattle.clnp_systems.specs.Stands.{entity_of}
 use Rattle.clnp_world.specs.Seen.{place_of}

@@ -5,7 +5,7 @@ use Rattle.clnp_machine.specs.ClnpPlan.Journal.{Line, Late, Received, Lost, ForN
 use Rattle.clnp_machine.specs.ClnpPlan.declared.config.Limits.{Limits}
 use Rattle.clnp_machine.specs.System.{SystemState}
 use Rattle.clnp_machine.specs.Step.{step}
-use Rattle.clnp_network.specs.LabelledNetwork.{Copy, Numbered, LabelledNetwork, first_port, frame_to, give, is_addressee, is_late, lose_one, settle_one, takes_effect}
+use Rattle.clnp_machine.specs.ClnpNetwork.LabelledNetwork.{Copy, Numbered, LabelledNetwork, first_port, frame_to, give, is_addressee, is_late, lose_one, settle_one, takes_effect}
 
 -- whether a line tells what becomes of a copy
 abbrev pub tells_of_copy : Line → Bool

@@ -2,8 +2,8 @@
 use Rattle.std.specs.Prelude.{◌≡◌, ◌==◌, ℕ, if◌then◌else◌, List, slice_get, slice_set, Option, option_map}
 use Rattle.clnp_machine.specs.Change.{with_mtu}
 use Rattle.clnp_machine.specs.ClnpPlan.declared.config.PortConfig.{PortConfig}
-use Rattle.clnp_network.specs.ScenarioPlan.Plan.{Subnetwork}
-use Rattle.clnp_network.specs.LabelledNetwork.{LabelledNetwork, ports_of, resizes}
+use Rattle.clnp_machine.specs.ScenarioPlan.Plan.{Subnetwork}
+use Rattle.clnp_machine.specs.ClnpNetwork.LabelledNetwork.{LabelledNetwork, ports_of, resizes}
 
 -- the port of a number at the system at a place, as it is now
 abbrev pub port_at : LabelledNetwork → (place number : ℕ) → Option PortConfig

@@ -5,10 +5,10 @@ use Rattle.clnp_machine.specs.Change.{Change, PortIsAt, PortTakes, RouteIsGone, 
 use Rattle.clnp_machine.specs.ClnpPlan.declared.config.PortConfig.{PortConfig}
 use Rattle.clnp_machine.specs.ClnpPlan.declared.config.Role.TheVariants as role
 use Rattle.clnp_machine.specs.Forwarding.Distinct.{has_prefix}
-use Rattle.clnp_machine.specs.Forwarding.declared.route.Route.{Route}
+use Rattle.clnp_machine.specs.SystemTables.declared.forwarding.route.Route.{Route}
 use Rattle.clnp_machine.specs.Step.{step}
 use Rattle.clnp_machine.specs.System.{IsChanged, SystemState}
-use Rattle.clnp_network.specs.LabelledNetwork.{moved}
+use Rattle.clnp_machine.specs.ClnpNetwork.LabelledNetwork.{moved}
 use Rattle.clnp_systems.specs.Stands.{Stands}
 use Rattle.clnp_systems.specs.declared.system.System.{System}
 

@@ -1,5 +1,9 @@
-pub use Rattle.clnp_network.specs.ScenarioPlan
-pub use Rattle.clnp_network.specs as ClnpNetwork
+pub use Rattle.clnp_machine.specs.ClnpBase
+pub use Rattle.clnp_machine.specs.ClnpPlan
+pub use Rattle.clnp_machine.specs.ScenarioPlan
+pub use Rattle.scenario.specs as Scenario
+pub use Rattle.scenario.specs.ScenarioWriting
+pub use Rattle.clnp_safety.specs as ClnpSafety
 pub mod Lines
 pub mod Seen
 pub mod State
@@ -8,3 +12,4 @@ pub mod Parts
 pub mod Changing
 pub mod Becoming
 pub mod Changed
+pub mod NetworkCommands

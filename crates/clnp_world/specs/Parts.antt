@@ -2,7 +2,7 @@
 use Rattle.std.specs.Prelude.{◌≡◌, ◌≤◌, ◌+◌, ℕ, List, ◌++◌, slice_get, Some}
 use Rattle.clnp_machine.specs.System.{Input, SystemState}
 use Rattle.clnp_systems.specs.Steps.{moment_at}
-use Rattle.clnp_network.specs.LabelledNetwork as network
+use Rattle.clnp_machine.specs.ClnpNetwork.LabelledNetwork as network
 use Rattle.clnp_world.specs.Lines.{Gains, Taken}
 use Rattle.clnp_world.specs.Seen.{frames_weight}
 use Rattle.clnp_world.specs.State.{NetworkState}

@@ -1,12 +1,12 @@
 -- What the code's copies are in the model.
 use Rattle.std.specs.Prelude.{◌≡◌, ℕ, ◌+◌, ◌==◌, ◌&&◌, Bool, true, false, List, [], ◌∷◌, drop, length, map, slice_get, sum, Option, None, Some}
-use Rattle.clnp_machine.specs.Nsap.declared.target.Target.{Target}
+use Rattle.clnp_machine.specs.Pdus.declared.nsap.target.Target.{Target}
 use Rattle.clnp_machine.specs.ClnpPlan.declared.config.PortConfig.{PortConfig}
 use Rattle.clnp_machine.specs.ClnpPlan.declared.config.Role.{Role}
 use Rattle.clnp_machine.specs.Content.{frame_of}
 use Rattle.clnp_machine.specs.Unit.{Maker, DeclaredAt, Outside}
 use Rattle.clnp_machine.specs.System.{SystemState}
-use Rattle.clnp_network.specs.LabelledNetwork.{Copy, addressees_from, first_port, is_addressee, reaches}
+use Rattle.clnp_machine.specs.ClnpNetwork.LabelledNetwork.{Copy, addressees_from, first_port, is_addressee, reaches}
 use Rattle.clnp_world.specs.declared.copy.FrameCopy.{FrameCopy}
 use Rattle.clnp_world.specs.declared.copy.Origin.{Origin}
 use Rattle.clnp_world.specs.declared.network.giving.Addressee.{Addressee}

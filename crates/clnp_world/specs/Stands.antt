@@ -7,8 +7,8 @@ use Rattle.clnp_machine.specs.ClnpPlan.Configuration.{IsWithin}
 use Rattle.clnp_machine.specs.ClnpPlan.declared.config.Role.{Role}
 use Rattle.clnp_systems.specs.declared.system.System.{System}
 use Rattle.clnp_systems.specs.Stands as clnp_systems
-use Rattle.clnp_network.specs.Clocks.{NoneIsAhead}
-use Rattle.clnp_network.specs.LabelledNetwork as network
+use Rattle.clnp_machine.specs.ClnpNetwork.Clocks.{NoneIsAhead}
+use Rattle.clnp_machine.specs.ClnpNetwork.LabelledNetwork as network
 use Rattle.clnp_world.specs.Seen.{frame_copy, origin_of}
 use Rattle.clnp_world.specs.State.{NetworkState, WorldState}
 use Rattle.clnp_world.specs.declared.copy.FrameCopy.{FrameCopy}

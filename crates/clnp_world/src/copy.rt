@@ -1,7 +1,7 @@
 //! Copies of frames on a subnetwork.
 ghost use Rattle.std.specs.Prelude.{◌≡◌, ◌<◌, ◌≤◌, IfSome, length};
 ghost use Rattle.std.specs.List.{position};
-ghost use Rattle.clnp_network.specs.LabelledNetwork as network;
+ghost use Rattle.clnp_machine.specs.ClnpNetwork.LabelledNetwork as network;
 ghost use Rattle.clnp_world.specs.Seen.{enters};
 
 use clnp_machine::nsaps::{Snpa, Target};

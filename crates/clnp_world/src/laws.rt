@@ -3,8 +3,8 @@
 ghost use Rattle.std.specs.Prelude.{◌≡◌, ℕ, List, Some, slice_get};
 ghost use Rattle.clnp_machine.specs.ClnpPlan.declared.config.Limits.{Limits};
 ghost use Rattle.clnp_machine.specs.System.{SystemState};
-ghost use Rattle.clnp_network.specs.ScenarioPlan.Plan.{Subnetwork};
-ghost use Rattle.clnp_network.specs.LabelledNetwork.{Copy, Numbered, LabelledNetwork};
+ghost use Rattle.clnp_machine.specs.ScenarioPlan.Plan.{Subnetwork};
+ghost use Rattle.clnp_machine.specs.ClnpNetwork.LabelledNetwork.{Copy, Numbered, LabelledNetwork};
 ghost use Rattle.clnp_world.specs.Becoming.{GivesAsTold, TellsOnce};
 ghost use Rattle.clnp_world.specs.Changed.{FitsEachPort};
 

@@ -5,10 +5,11 @@ mod copy;
 pub mod laws;
 mod lines;
 mod network;
+pub mod network_commands;
 mod world;
 mod writing;
 
-pub use clnp_network::scenarios;
-pub use clnp_network::scenarios::Move;
+pub use clnp_machine::clnp_network::scenarios;
+pub use clnp_machine::clnp_network::scenarios::Move;
 pub use lines::Counts;
 pub use world::{World, WorldRefusal};

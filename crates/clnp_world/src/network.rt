@@ -1,14 +1,14 @@
 //! The network between its moves: systems, and the copies of frames on the subnetworks.
 ghost use Rattle.std.specs.Prelude.{◌≡◌, IfOk, map};
-ghost use Rattle.clnp_network.specs.ScenarioPlan.Plan.{Subnetwork};
-ghost use Rattle.clnp_network.specs.LabelledNetwork as network;
+ghost use Rattle.clnp_machine.specs.ScenarioPlan.Plan.{Subnetwork};
+ghost use Rattle.clnp_machine.specs.ClnpNetwork.LabelledNetwork as network;
 ghost use Rattle.clnp_world.specs.Parts.{Holds};
 ghost use Rattle.clnp_world.specs.Stands.{StandEach};
 
 use crate::copy::FrameCopy;
 use clnp_machine::base::NoMemory;
+use clnp_machine::clnp_network::scenarios::{Scenario, Subnet};
 use clnp_machine::system_plan::Output;
-use clnp_network::scenarios::{Scenario, Subnet};
 use clnp_systems::System;
 use std::alloc::Global;
 

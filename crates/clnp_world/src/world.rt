@@ -1,8 +1,8 @@
 //! The network that a caller moves: each move whole or not at all.
 ghost use Rattle.std.specs.Prelude.{◌≡◌, ◌+◌, ◌<◌, ◌≤◌, ◌^◌, ℕ, ◌++◌, IfErr, IfNone, IfOk, IfSome, Err, MatchOption, OnOk, OnErr, Some, false, length, nat_le, slice_get, true};
 ghost use Rattle.clnp_machine.specs.System.{SystemState};
-ghost use Rattle.clnp_network.specs.Run.{told_lines, world_end};
-ghost use Rattle.clnp_network.specs.LabelledNetwork as network;
+ghost use Rattle.clnp_machine.specs.ClnpNetwork.Run.{told_lines, world_end};
+ghost use Rattle.clnp_machine.specs.ClnpNetwork.LabelledNetwork as network;
 ghost use Rattle.clnp_machine.specs.ClnpPlan.declared.config.Role.TheVariants as role;
 ghost use Rattle.clnp_systems.specs.Stands.{configuration_of};
 ghost use Rattle.clnp_systems.specs.declared.system.System.{System};
@@ -17,8 +17,8 @@ use crate::lines::{Counts, LineSink};
 use crate::network::Network;
 use crate::writing::{Front, Writing};
 use clnp_machine::base::NoMemory;
+use clnp_machine::clnp_network::scenarios::{Move, Scenario};
 use clnp_machine::system_plan::{Telling, push_end};
-use clnp_network::scenarios::{Move, Scenario};
 use clnp_systems::{EndSystem, Router};
 use std::alloc::Global;
 use std::marker::{Brand, Model, PhantomData};

@@ -1,7 +1,7 @@
 //! Lines packed and shown again, and lines of which one word was changed.
-use capture_text::PackRefusal;
-use capture_text::many::pack_line;
 use captures::base::{DigitValues, NoMemory, next_line, next_word, push, words};
+use captures::capture_text::PackRefusal;
+use captures::capture_text::many::pack_line;
 use captures::many::{read_capture, show_line};
 use std::alloc::Global;
 

@@ -1,7 +1,7 @@
 //! Parts whose changes are known from elsewhere. A header with two addresses of four octets and no segmentation part
 //! has its options from place 20 on.
 
-use pdu_header::options::{
+use pdus::pdu_header::options::{
     advance_route, check, is_route_complete, mark_congestion, record_title, route_target,
 };
 

@@ -1,7 +1,7 @@
 ghost use Rattle.std.specs.Prelude.{◌≤◌, length};
 
 use captures::base::NoMemory;
-use pdu_header::views::{Frame, View};
+use pdus::pdu_header::views::{Frame, View};
 use std::alloc::Global;
 
 /// Octets 7 to 12 of a frame, for a further owner.

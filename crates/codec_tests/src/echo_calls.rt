@@ -1,7 +1,7 @@
 //! An echo reply that is known from elsewhere, and data that answer its request.
 
-use made_pdus::{matches, needs_id, reply};
-use pdu_header::{Header, decode};
+use pdus::made_pdus::{matches, needs_id, reply};
+use pdus::pdu_header::{Header, decode};
 
 /// An echo request of lifetime 64 from 47002702 to 47002701 with the data 6869.
 const REQUEST: &[u8] =

@@ -1,8 +1,8 @@
 //! An error report that is known from elsewhere, made and read.
 
-use made_pdus::{Told, read, report};
-use pdu_header::decode;
-use pdu_header::nsaps::Address;
+use pdus::made_pdus::{Told, read, report};
+use pdus::pdu_header::decode;
+use pdus::pdu_header::nsaps::Address;
 
 /// A data PDU of lifetime 1 from 47002702 to 47002701, with a header of 19 octets.
 const FRAME: &[u8] =

@@ -1,6 +1,6 @@
 //! ES-IS PDUs. All have the holding time 120.
 use captures::esis_values::{HelloRefusal, decode, encode, esh, ish, rd};
-use pdu_header::nsaps::{Address, Snpa};
+use pdus::pdu_header::nsaps::{Address, Snpa};
 use std::alloc::Global;
 
 /// The end system hello of the address 47002702.

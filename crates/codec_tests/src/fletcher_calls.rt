@@ -1,5 +1,5 @@
 //! Worked headers: the values were typed from outside, and are no output of the program.
-use pdu_header::checksums::{adjust, is_right, seal};
+use pdus::pdu_header::checksums::{adjust, is_right, seal};
 
 /// Whether a header is right, is wrong where one of octets 8 and 9 is 0, is right where both are, and is then sealed
 /// as it stood.

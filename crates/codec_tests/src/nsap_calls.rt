@@ -1,4 +1,4 @@
-use pdu_header::nsaps::{Address, NsapFault, Prefix, Snpa};
+use pdus::pdu_header::nsaps::{Address, NsapFault, Prefix, Snpa};
 use std::alloc::Global;
 
 const TWENTY: &[u8] = b"0102030405060708090a0b0c0d0e0f1011121314";

@@ -1,10 +1,10 @@
 //! Headers made and changed. All have the destination 47002701 and the source 47002702.
 ghost use Rattle.std.specs.Prelude.{◌≡◌, ℕ, IfSome};
-ghost use Rattle.made_pdus.specs.PduHeader.Parts.{AreFit};
+ghost use Rattle.pdus.specs.PduHeader.Parts.{AreFit};
 
-use pdu_header::nsaps::Address;
-use pdu_header::options::OptionList;
-use pdu_header::{Header, Kind, Parts, decode, encode};
+use pdus::pdu_header::nsaps::Address;
+use pdus::pdu_header::options::OptionList;
+use pdus::pdu_header::{Header, Kind, Parts, decode, encode};
 use std::alloc::Global;
 
 /// A data PDU of lifetime 10 with the data 6869, sealed.
@@ -15,8 +15,8 @@ const FRAME: &[u8] =
 fn plain() -> Option<Parts>
     ensures { IfSome result (λ parts. (body_len : ℕ) → AreFit parts body_len) }
 {
-    pdu_header::options::laws::spelled_options_read_back();
-    pdu_header::options::laws::reasons_stand_in_reports();
+    pdus::pdu_header::options::laws::spelled_options_read_back();
+    pdus::pdu_header::options::laws::reasons_stand_in_reports();
     let Ok(to) = Address::from_bytes(&[0x47, 0x00, 0x27, 0x01]) else {
         return None;
     };

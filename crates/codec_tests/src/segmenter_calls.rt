@@ -1,10 +1,10 @@
 //! Pieces that are known from elsewhere. All are of data PDUs from 47002702 to 47002701 with a header of 25 octets.
 ghost use Rattle.std.specs.Prelude.{◌≤◌, IfSome};
 ghost use Rattle.std.specs.List.{AllByRecursion};
-ghost use Rattle.made_pdus.specs.Left.{IsCutOf};
+ghost use Rattle.pdus.specs.MadePdus.Left.{IsCutOf};
 
-use made_pdus::Cuts;
-use pdu_header::{Header, decode};
+use pdus::made_pdus::Cuts;
+use pdus::pdu_header::{Header, decode};
 
 /// The sealed header of a unit of 3,000 octets of data.
 const UNIT: &[u8; 25] =

@@ -12,10 +12,10 @@ use Rattle.scenario.proofs.ClnpBase.Found.{contains_any}
 use Rattle.scenario.proofs.ClnpBase.Lists.{AllByRecursion-push, slice_get-push, slice_get-push_other}
 use Rattle.scenario.proofs.ClnpBase.Maps.{list_any-map}
 use Rattle.scenario.proofs.ClnpBase.SameOctets.{same-itself}
-use Rattle.fair_reassembly.specs.Reassembly.declared.table.TableLimits.{TableLimits}
-use Rattle.fair_reassembly.specs.declared.came.Came.{Came}
-use Rattle.fair_reassembly.specs.declared.share.Share.{Share}
-use Rattle.fair_reassembly.specs.Tables.{AreDistinct, limits_of, sources_of}
+use Rattle.system_tables.specs.declared.reassembly.table.TableLimits.{TableLimits}
+use Rattle.system_tables.specs.declared.fair_reassembly.came.Came.{Came}
+use Rattle.system_tables.specs.declared.fair_reassembly.share.Share.{Share}
+use Rattle.system_tables.specs.FairReassembly.Tables.{AreDistinct, limits_of, sources_of}
 use Rattle.scenario.specs.Grammar.{BadLine, ReadTo, is_line_of, nothing_after}
 use Rattle.scenario.proofs.Behind.{behind_found, behind_line_such, behind_result, behind_such, behind_wanted, either_way, number_is_within}
 use Rattle.scenario.specs.Words.{five_words, frame_word, literal, number_word, two_words}

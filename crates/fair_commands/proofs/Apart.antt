@@ -1,10 +1,10 @@
 -- The lines of a class, and the output where no other frames come.
 use Rattle.std.proofs.Common.{◌≡◌, ◌++◌, ℕ, List, length, take, Result, Ok, Err, IfOk, refl, sym, ap, subst}
 use Rattle.std.specs.List.{flat_map}
-use Rattle.fair_reassembly.specs.Classes.{Account, frames_of, limits_at}
-use Rattle.fair_reassembly.proofs.Alone.{alone}
-use Rattle.fair_reassembly.proofs.Kept.{held_within, within_limits}
-use Rattle.fair_reassembly.proofs.Sources.{source_alone}
+use Rattle.system_tables.specs.FairReassembly.Classes.{Account, frames_of, limits_at}
+use Rattle.system_tables.proofs.FairReassembly.Alone.{alone}
+use Rattle.system_tables.proofs.FairReassembly.Kept.{held_within, within_limits}
+use Rattle.system_tables.proofs.FairReassembly.Sources.{source_alone}
 use Rattle.fair_commands.specs.Claims.{IsAccepted}
 use Rattle.fair_commands.specs.Fair.{IsFair, from_alone}
 use Rattle.fair_commands.specs.Grammar.{Capture, capture_of}

@@ -6,18 +6,18 @@ use Rattle.std.proofs.lemmas.Option.{same_Some, slice_get_within}
 use Rattle.fair_commands.specs.ClnpViews.Extent.{Extent, whole}
 use Rattle.fair_commands.specs.PduHeader.Value.{PduValue, SegmentationPart}
 use Rattle.fair_commands.specs.PduHeader.View.{why_refused}
-use Rattle.fair_commands.specs.PduHeader.declared.pdu.Refusal.{Refusal}
+use Rattle.fair_commands.specs.Pdus.declared.pdu_header.pdu.Refusal.{Refusal}
 use Rattle.fair_commands.proofs.ClnpBase.Choices.{is_equal}
 use Rattle.fair_commands.specs.Output.{account_text, told_line}
-use Rattle.fair_commands.specs.FairReassembly.declared.came.Came.{Came}
-use Rattle.fair_commands.specs.FairReassembly.declared.fair.Took.TheVariants as took
-use Rattle.fair_commands.specs.FairReassembly.Reassembly.declared.segment.Segment.{Segment}
-use Rattle.fair_commands.specs.FairReassembly.Reassembly.declared.table.Accept.{Accept}
-use Rattle.fair_commands.specs.FairReassembly.Reassembly.declared.table.Accept.TheVariants as accept
-use Rattle.fair_commands.specs.FairReassembly.Reassembly.declared.table.SlotNo.{SlotNo}
-use Rattle.fair_commands.specs.FairReassembly.Reassembly.declared.table.TableLimits.{TableLimits}
-use Rattle.fair_commands.specs.FairReassembly.Reassembly.Buffer.{Buffer}
-use Rattle.fair_commands.specs.FairReassembly.Reassembly.State.{IsWholeSlot, TableState}
+use Rattle.fair_commands.specs.SystemTables.declared.fair_reassembly.came.Came.{Came}
+use Rattle.fair_commands.specs.SystemTables.declared.fair_reassembly.fair.Took.TheVariants as took
+use Rattle.fair_commands.specs.SystemTables.declared.reassembly.segment.Segment.{Segment}
+use Rattle.fair_commands.specs.SystemTables.declared.reassembly.table.Accept.{Accept}
+use Rattle.fair_commands.specs.SystemTables.declared.reassembly.table.Accept.TheVariants as accept
+use Rattle.fair_commands.specs.SystemTables.declared.reassembly.table.SlotNo.{SlotNo}
+use Rattle.fair_commands.specs.SystemTables.declared.reassembly.table.TableLimits.{TableLimits}
+use Rattle.fair_commands.specs.Reassembly.Buffer.{Buffer}
+use Rattle.fair_commands.specs.Reassembly.State.{IsWholeSlot, TableState}
 use Rattle.fair_commands.specs.FairReassembly.Behind.{StandBehind, Undergoes}
 use Rattle.fair_commands.specs.FairReassembly.Calls.{Accepts, IsOffered, Takes}
 use Rattle.fair_commands.specs.FairReassembly.Classes.{Dead, Effect, Joined, Shares, Told, Unread, account_behind, arrives, class_buffers, class_of, comes, expire_all, offers, takes, tells, told_in}

@@ -5,11 +5,11 @@ use Rattle.std.proofs.lemmas.List.{length-map}
 use Rattle.std.proofs.lemmas.Option.{same_Some}
 use Rattle.fair_commands.specs.ClnpViews.Extent.{Extent}
 use Rattle.fair_commands.specs.Output.{told_line}
-use Rattle.fair_commands.specs.FairReassembly.Reassembly.declared.table.Expired.{Expired}
-use Rattle.fair_commands.specs.FairReassembly.Reassembly.declared.table.TableLimits.{TableLimits}
-use Rattle.fair_commands.specs.FairReassembly.Reassembly.Buffer.{Buffer, due, first_carried, held, without, without_due}
-use Rattle.fair_commands.specs.FairReassembly.Reassembly.NoWhole.{HasNoWhole}
-use Rattle.fair_commands.specs.FairReassembly.Reassembly.State.{IsReady, Stands, TableState, opening_of}
+use Rattle.fair_commands.specs.SystemTables.declared.reassembly.table.Expired.{Expired}
+use Rattle.fair_commands.specs.SystemTables.declared.reassembly.table.TableLimits.{TableLimits}
+use Rattle.fair_commands.specs.Reassembly.Buffer.{Buffer, due, first_carried, held, without, without_due}
+use Rattle.fair_commands.specs.Reassembly.NoWhole.{HasNoWhole}
+use Rattle.fair_commands.specs.Reassembly.State.{IsReady, Stands, TableState, opening_of}
 use Rattle.fair_commands.specs.FairReassembly.Calls.{Expires}
 use Rattle.fair_commands.specs.FairReassembly.Classes as classes
 use Rattle.fair_commands.specs.FairReassembly.Classes.{Effect, and_then, ends, expire_all, rests}

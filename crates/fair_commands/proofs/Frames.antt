@@ -5,18 +5,18 @@ use Rattle.std.proofs.lemmas.Grind.{flat_map-append}
 use Rattle.fair_commands.specs.ClnpViews.Extent.{Extent}
 use Rattle.fair_commands.specs.PduHeader.Value.{PduValue, SegmentationPart}
 use Rattle.fair_commands.specs.Output.{told_line}
-use Rattle.fair_commands.specs.FairReassembly.Reassembly.declared.segment.Segment.{Segment}
-use Rattle.fair_commands.specs.FairReassembly.Reassembly.declared.table.Accept.{Accept}
-use Rattle.fair_commands.specs.FairReassembly.Reassembly.declared.table.Accept.TheVariants as accept
-use Rattle.fair_commands.specs.FairReassembly.Reassembly.declared.table.SlotNo.{SlotNo}
-use Rattle.fair_commands.specs.FairReassembly.Reassembly.declared.table.TableLimits.{TableLimits}
-use Rattle.fair_commands.specs.FairReassembly.Reassembly.Arrival.{arrival_of, octet_in}
-use Rattle.fair_commands.specs.FairReassembly.Reassembly.Buffer as buffer
-use Rattle.fair_commands.specs.FairReassembly.Reassembly.Buffer.{Answer, Buffer, after, answer, buffer_of, data_of, without}
-use Rattle.fair_commands.specs.FairReassembly.Reassembly.State.{Names, Stands, TableState, said}
+use Rattle.fair_commands.specs.SystemTables.declared.reassembly.segment.Segment.{Segment}
+use Rattle.fair_commands.specs.SystemTables.declared.reassembly.table.Accept.{Accept}
+use Rattle.fair_commands.specs.SystemTables.declared.reassembly.table.Accept.TheVariants as accept
+use Rattle.fair_commands.specs.SystemTables.declared.reassembly.table.SlotNo.{SlotNo}
+use Rattle.fair_commands.specs.SystemTables.declared.reassembly.table.TableLimits.{TableLimits}
+use Rattle.fair_commands.specs.Reassembly.Arrival.{arrival_of, octet_in}
+use Rattle.fair_commands.specs.Reassembly.Buffer as buffer
+use Rattle.fair_commands.specs.Reassembly.Buffer.{Answer, Buffer, after, answer, buffer_of, data_of, without}
+use Rattle.fair_commands.specs.Reassembly.State.{Names, Stands, TableState, said}
 use Rattle.fair_commands.specs.FairReassembly.Calls.{Accepts, Releases}
 use Rattle.fair_commands.specs.FairReassembly.Classes.{Effect, Told, Joined, and_then, data_in, offers, takes_in, tells}
-use Rattle.fair_commands.proofs.FairReassembly.Reassembly.Shared.{key_found, made_whole}
+use Rattle.fair_commands.proofs.Reassembly.Shared.{key_found, made_whole}
 use Rattle.fair_commands.specs.Frames.{Tells}
 
 -- what is told, as lines

@@ -1,5 +1,6 @@
 pub use Rattle.scenario.proofs.ClnpBase
-pub use Rattle.fair_reassembly.proofs as FairReassembly
+pub use Rattle.system_tables.proofs.FairReassembly
+pub use Rattle.system_tables.proofs.ReassemblyFacts as Reassembly
 pub mod Frames
 pub mod Expired
 pub mod Arriving

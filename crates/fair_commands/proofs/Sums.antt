@@ -2,10 +2,10 @@
 use Rattle.std.proofs.Common.{◌≡◌, ℕ, ◌+◌, ◌<◌, List, [], ◌∷◌, ◌++◌, length, map, sum, take, get_or, sym, ap, ◌∙◌}
 use Rattle.std.proofs.lemmas.List.{take_more}
 use Rattle.scenario.proofs.ClnpBase.Sums.{sum_push}
-use Rattle.fair_reassembly.specs.Reassembly.declared.table.TableLimits.{TableLimits}
-use Rattle.fair_reassembly.specs.declared.share.Share.{Share}
-use Rattle.fair_reassembly.specs.Tables.{limits_of}
-use Rattle.fair_reassembly.proofs.Opened.{limits-push}
+use Rattle.system_tables.specs.declared.reassembly.table.TableLimits.{TableLimits}
+use Rattle.system_tables.specs.declared.fair_reassembly.share.Share.{Share}
+use Rattle.system_tables.specs.FairReassembly.Tables.{limits_of}
+use Rattle.system_tables.proofs.FairReassembly.Opened.{limits-push}
 
 pub sum_more : (f : TableLimits → ℕ) (others : TableLimits) (shares : List Share) (i : ℕ) (share : Share) → i < length shares
     → share ≡ get_or shares i share

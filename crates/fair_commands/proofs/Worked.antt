@@ -7,7 +7,7 @@ use Rattle.scenario.specs.ClnpOptions.Parameter.{parameters_after, spelled}
 use Rattle.scenario.specs.ClnpOptions.Rules.{form_refusal, list_refusal, place_of, place_of_repeat, refusal as options_refusal}
 use Rattle.scenario.specs.Nsap.Text.{octets_of}
 use Rattle.scenario.specs.PduHeader.Rules.{addresses_refusal, extent_refusal, fixed_part_refusal, header_refusal, lengths_refusal, refusal}
-use Rattle.fair_reassembly.specs.Coming.{value_in}
+use Rattle.system_tables.specs.FairReassembly.Coming.{value_in}
 use Rattle.scenario.specs.Grammar.{BadLine}
 use Rattle.fair_commands.specs.Grammar.{Capture, capture_at, capture_of}
 use Rattle.fair_commands.specs.Output.{output_of}

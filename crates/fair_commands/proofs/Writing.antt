@@ -7,12 +7,12 @@ use Rattle.std.proofs.lemmas.Grind.{flat_map-append}
 use Rattle.fair_commands.specs.ClnpBase.Streams.{AppendsFront}
 use Rattle.fair_commands.specs.Grammar.{Capture}
 use Rattle.fair_commands.specs.Output.{account_text, end_line, frames_text, output_of}
-use Rattle.fair_commands.specs.FairReassembly.declared.came.Came.{Came}
+use Rattle.fair_commands.specs.SystemTables.declared.fair_reassembly.came.Came.{Came}
 use Rattle.fair_commands.specs.FairReassembly.Behind.{StandBehind}
 use Rattle.fair_commands.specs.FairReassembly.Classes.{Shares, account_behind, accounts, each_behind}
 use Rattle.fair_commands.specs.FairReassembly.Tables.{FairState}
-use Rattle.command_base.specs.ByLine.{FlushOf}
-use Rattle.command_base.proofs.Fronts.{front-behind, front-longer}
+use Rattle.clnp_base.specs.CommandBase.ByLine.{FlushOf}
+use Rattle.clnp_base.proofs.CommandBase.Fronts.{front-behind, front-longer}
 use Rattle.fair_commands.specs.declared.joining.Stop.{Stop}
 use Rattle.fair_commands.specs.declared.joining.Stop.TheVariants.{WriteFault, NoMemory}
 use Rattle.fair_commands.specs.Frames.{GoesOn}

@@ -1,9 +1,9 @@
 -- What is so of an accepted text.
 use Rattle.std.specs.Prelude.{◌^◌, ◌≤◌, ◌<◌, length}
 use Rattle.std.specs.List.{AllByRecursion}
-use Rattle.fair_reassembly.specs.declared.came.Came.{Came}
-use Rattle.fair_reassembly.specs.Claims.{budget_of_all}
-use Rattle.fair_reassembly.specs.Tables.{AreDistinct, sources_of}
+use Rattle.system_tables.specs.declared.fair_reassembly.came.Came.{Came}
+use Rattle.system_tables.specs.FairReassembly.Claims.{budget_of_all}
+use Rattle.system_tables.specs.FairReassembly.Tables.{AreDistinct, sources_of}
 use Rattle.fair_commands.specs.Grammar.{Capture}
 
 -- a frame of at most 70,000 octets, which came at a moment below 2 ^ 32

@@ -1,10 +1,10 @@
 -- What a share is worth, said of the output.
 use Rattle.std.specs.Prelude.{◌≡◌, ◌≤◌, ℕ, List, ◌++◌, length, filter, take, Some, slice_get}
 use Rattle.std.specs.List.{flat_map}
-use Rattle.fair_reassembly.specs.declared.share.Share.{Share}
-use Rattle.fair_reassembly.specs.Reassembly.Claims.{KeepTo}
-use Rattle.fair_reassembly.specs.Claims.{budget_of_all, held_by_all}
-use Rattle.fair_reassembly.specs.Classes.{accounts, class_buffers, is_from, limits_at}
+use Rattle.system_tables.specs.declared.fair_reassembly.share.Share.{Share}
+use Rattle.system_tables.specs.Reassembly.Claims.{KeepTo}
+use Rattle.system_tables.specs.FairReassembly.Claims.{budget_of_all, held_by_all}
+use Rattle.system_tables.specs.FairReassembly.Classes.{accounts, class_buffers, is_from, limits_at}
 use Rattle.fair_commands.specs.Grammar.{Capture}
 use Rattle.fair_commands.specs.Output.{account_text, end_line, output_of}
 

@@ -3,10 +3,10 @@ use Rattle.std.specs.Prelude.{◌≡◌, ℕ, List, [], ◌∷◌, ◌++◌}
 use Rattle.std.specs.List.{flat_map}
 use Rattle.fair_commands.specs.ClnpViews.Extent.{Extent}
 use Rattle.fair_commands.specs.Output.{account_text, told_line}
-use Rattle.fair_commands.specs.FairReassembly.declared.came.Came.{Came}
-use Rattle.fair_commands.specs.FairReassembly.Reassembly.declared.table.TableLimits.{TableLimits}
-use Rattle.fair_commands.specs.FairReassembly.Reassembly.Buffer.{Buffer}
-use Rattle.fair_commands.specs.FairReassembly.Reassembly.State.{Stands, TableState}
+use Rattle.fair_commands.specs.SystemTables.declared.fair_reassembly.came.Came.{Came}
+use Rattle.fair_commands.specs.SystemTables.declared.reassembly.table.TableLimits.{TableLimits}
+use Rattle.fair_commands.specs.Reassembly.Buffer.{Buffer}
+use Rattle.fair_commands.specs.Reassembly.State.{Stands, TableState}
 use Rattle.fair_commands.specs.FairReassembly.Behind.{StandBehind, Undergoes}
 use Rattle.fair_commands.specs.FairReassembly.Classes.{Effect, Shares, account_behind}
 use Rattle.fair_commands.specs.FairReassembly.Tables.{FairState}

@@ -3,11 +3,11 @@ use Rattle.std.specs.Prelude.{ℕ, ◌+◌, ◌&&◌, not, nat_le, nat_lt, Bool,
 use Rattle.std.specs.List.{list_any}
 use Rattle.std.specs.Str.{bytes_eq}
 use Rattle.scenario.specs.ClnpBase.Text.{lines_of, words_of, is_skipped}
-use Rattle.fair_reassembly.specs.Reassembly.declared.table.TableLimits.{TableLimits}
-use Rattle.fair_reassembly.specs.declared.came.Came.{Came}
-use Rattle.fair_reassembly.specs.declared.share.Share.{Share}
-use Rattle.fair_reassembly.specs.Classes.{Shares}
-use Rattle.fair_reassembly.specs.Tables.{limits_of}
+use Rattle.system_tables.specs.declared.reassembly.table.TableLimits.{TableLimits}
+use Rattle.system_tables.specs.declared.fair_reassembly.came.Came.{Came}
+use Rattle.system_tables.specs.declared.fair_reassembly.share.Share.{Share}
+use Rattle.system_tables.specs.FairReassembly.Classes.{Shares}
+use Rattle.system_tables.specs.FairReassembly.Tables.{limits_of}
 use Rattle.scenario.specs.declared.code.Code.{Code}
 use Rattle.scenario.specs.declared.code.Code.TheVariants as bad
 use Rattle.scenario.specs.Codes.{number_of}

@@ -5,8 +5,8 @@ use Rattle.std.specs.List.{flat_map}
 use Rattle.scenario.specs.Nsap.Text.{hex_text}
 use Rattle.scenario.specs.PduHeader.Spelling.{pair_of}
 use Rattle.scenario.specs.ClnpPlan.Journal.{kind_word, line_of, octets_word}
-use Rattle.fair_reassembly.specs.declared.came.Came.{Came}
-use Rattle.fair_reassembly.specs.Classes.{Account, Shares, Told, Unread, Expired, Dead, Joined, Held, Repeat, Interference, NoSlot, Crowded, Many, accounts, accounts_of, frames_of}
+use Rattle.system_tables.specs.declared.fair_reassembly.came.Came.{Came}
+use Rattle.system_tables.specs.FairReassembly.Classes.{Account, Shares, Told, Unread, Expired, Dead, Joined, Held, Repeat, Interference, NoSlot, Crowded, Many, accounts, accounts_of, frames_of}
 use Rattle.fair_commands.specs.Grammar.{Capture}
 
 -- the words behind the moment

@@ -5,11 +5,11 @@ use Rattle.fair_commands.specs.ClnpBase.Streams.{AppendsFront}
 use Rattle.fair_commands.specs.Output.{frames_text, output_of}
 use Rattle.fair_commands.specs.Grammar.{Capture, capture_of}
 use Rattle.fair_commands.specs.Scenario.Grammar.{BadLine}
-use Rattle.fair_commands.specs.FairReassembly.declared.came.Came.{Came}
+use Rattle.fair_commands.specs.SystemTables.declared.fair_reassembly.came.Came.{Came}
 use Rattle.fair_commands.specs.FairReassembly.Classes.{Shares}
-use Rattle.command_base.specs.declared.status.Status.{Status}
-use Rattle.command_base.specs.declared.status.Status.TheVariants.{Done, BadInput}
-use Rattle.command_base.specs.ComesAs.{Task}
+use Rattle.clnp_base.specs.declared.command_base.status.Status.{Status}
+use Rattle.clnp_base.specs.declared.command_base.status.Status.TheVariants.{Done, BadInput}
+use Rattle.clnp_base.specs.CommandBase.ComesAs.{Task}
 
 -- the status of a text that says what was captured, or has a bad line
 abbrev pub status_by : Result Capture BadLine → Status

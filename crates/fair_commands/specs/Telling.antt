@@ -1,5 +1,5 @@
 -- What is told, as the code has it.
-use Rattle.fair_reassembly.specs.Classes as classes
+use Rattle.system_tables.specs.FairReassembly.Classes as classes
 use Rattle.fair_commands.specs.declared.told_line.Told.{Told}
 use Rattle.fair_commands.specs.declared.told_line.Told.TheVariants.{Unread, Expired, Dead, Joined, Held, Repeat, Interference, NoSlot, Crowded, Many}
 

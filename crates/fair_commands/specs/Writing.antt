@@ -4,7 +4,7 @@ use Rattle.std.specs.Io.KnownBytes.{Appends, Keeps}
 use Rattle.fair_commands.specs.ClnpBase.Streams.{AppendsFront}
 use Rattle.fair_commands.specs.Grammar.{Capture}
 use Rattle.fair_commands.specs.Output.{frames_text, output_of}
-use Rattle.fair_commands.specs.FairReassembly.declared.came.Came.{Came}
+use Rattle.fair_commands.specs.SystemTables.declared.fair_reassembly.came.Came.{Came}
 use Rattle.fair_commands.specs.FairReassembly.Behind.{StandBehind}
 use Rattle.fair_commands.specs.FairReassembly.Classes.{Shares}
 use Rattle.fair_commands.specs.FairReassembly.Tables.{FairState}

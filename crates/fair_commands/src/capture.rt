@@ -1,8 +1,8 @@
 //! What a text of captured traffic says.
 
-use fair_reassembly::reassembling::TableLimits;
-use fair_reassembly::{Came, Share};
 use std::marker::Model;
+use system_tables::fair_reassembly::reassembling::TableLimits;
+use system_tables::fair_reassembly::{Came, Share};
 
 /// What a text of captured traffic says: the numbers of the table of all sources without a share, the sources that have a
 /// share, and the frames in the order in which they came.

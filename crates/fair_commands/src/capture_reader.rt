@@ -11,12 +11,12 @@ use crate::capture::Capture;
 use crate::declaration::{declare_share, others_line};
 use crate::fault::CaptureRefusal;
 use crate::frame_line::next_frame;
-use fair_reassembly::reassembling::TableLimits;
-use fair_reassembly::{Came, Share};
 use scenario::base::{DigitValues, is_skipped, next_line, same};
 use scenario::word::is_line_of;
 use scenario::{Code, LineFault};
 use std::alloc::Global;
+use system_tables::fair_reassembly::reassembling::TableLimits;
+use system_tables::fair_reassembly::{Came, Share};
 
 /// A line that breaks the grammar, by its number and the code's.
 fn bad_line(line: u32, code: Code) -> CaptureRefusal

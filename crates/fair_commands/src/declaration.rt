@@ -3,15 +3,15 @@ ghost use Rattle.std.specs.Prelude.{◌≡◌, ◌+◌, ◌<◌, ◌≤◌, ◌�
 ghost use Rattle.std.specs.Str.{bytes_eq};
 ghost use Rattle.scenario.specs.ClnpBase.Text.{words_of};
 ghost use Rattle.scenario.specs.Refusal.{Faults};
-ghost use Rattle.fair_reassembly.specs.Reassembly.declared.table.TableLimits.{TableLimits as Limits};
+ghost use Rattle.system_tables.specs.declared.reassembly.table.TableLimits.{TableLimits as Limits};
 ghost use Rattle.fair_commands.specs.Grammar.{are_few, budget_word, has_share, more_shares, others_line, segments_word, share_line, slots_word};
-ghost use Rattle.fair_reassembly.specs.Tables.{limits_of};
+ghost use Rattle.system_tables.specs.FairReassembly.Tables.{limits_of};
 
-use fair_reassembly::Share;
-use fair_reassembly::reassembling::TableLimits;
 use scenario::nsaps::Address;
 use scenario::word::{address_word, five_words, literal, number_word};
 use scenario::{Code, LineFault};
+use system_tables::fair_reassembly::Share;
+use system_tables::fair_reassembly::reassembling::TableLimits;
 
 /// How many buffers a table has at most.
 fn slots_word(word: &[u8]) -> Result<u16, Code>

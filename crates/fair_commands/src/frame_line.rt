@@ -5,12 +5,12 @@ ghost use Rattle.scenario.specs.Refusal.{Faults};
 ghost use Rattle.scenario.specs.Words.{frame_word};
 ghost use Rattle.fair_commands.specs.Grammar.{frame_line, next_frame};
 
-use fair_reassembly::Came;
 use scenario::base::{DigitValues, same};
 use scenario::views::Frame;
 use scenario::word::{number_word, two_words};
 use scenario::{Code, LineFault};
 use std::alloc::Global;
+use system_tables::fair_reassembly::Came;
 
 /// The most octets of a frame.
 const MOST_OCTETS: usize = 70_000;

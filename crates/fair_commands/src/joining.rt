@@ -4,12 +4,12 @@ ghost use Rattle.std.specs.List.{AllByRecursion};
 ghost use Rattle.fair_commands.specs.ClnpBase.Streams.{Rose};
 ghost use Rattle.fair_commands.specs.Claims.{IsAccepted, IsInRange};
 ghost use Rattle.fair_commands.specs.Output.{end_line};
-ghost use Rattle.fair_commands.specs.FairReassembly.declared.came.Came.{Came as CameOf};
-ghost use Rattle.fair_commands.specs.FairReassembly.Reassembly.NoWhole.{HasNoWhole};
+ghost use Rattle.fair_commands.specs.SystemTables.declared.fair_reassembly.came.Came.{Came as CameOf};
+ghost use Rattle.fair_commands.specs.Reassembly.NoWhole.{HasNoWhole};
 ghost use Rattle.fair_commands.specs.FairReassembly.Behind.{StandBehind};
 ghost use Rattle.fair_commands.specs.FairReassembly.Classes.{Shares};
 ghost use Rattle.fair_commands.specs.FairReassembly.Tables.{At};
-ghost use Rattle.command_base.specs.ComesAs.{ComesAs, most_input};
+ghost use Rattle.clnp_base.specs.CommandBase.ComesAs.{ComesAs, most_input};
 ghost use Rattle.fair_commands.specs.Reassemble.{reassemble_task};
 ghost use Rattle.fair_commands.specs.Writing.{EndOf, JoinOf, TakenOf, UnderWay};
 
@@ -18,8 +18,8 @@ use crate::fair::{Came, FairTable};
 use crate::frame::push_frame;
 use crate::laws::an_accepted_text_is_in_range;
 use crate::{Capture, CaptureRefusal, push_end, read};
-use command_base::base::{Failed, Sink, lines};
-use command_base::{Status, flush, flush_full};
+use clnp_base::command_base::base::{Failed, Sink, lines};
+use clnp_base::command_base::{Status, flush, flush_full};
 use std::alloc::Global;
 
 /// Writes the lines that tell what comes of each frame of captured traffic, in the order of the frames, and the last line.

@@ -31,8 +31,8 @@ pub mod clnp {
 
 /// Reassembly with a share for each of some sources.
 pub mod fair {
-    pub use fair_reassembly::reassembling::{Accept, SlotNo};
-    pub use fair_reassembly::{Came, FairTable, Took, laws};
+    pub use system_tables::fair_reassembly::reassembling::{Accept, SlotNo};
+    pub use system_tables::fair_reassembly::{Came, FairTable, Took, laws};
 }
 
 /// Octets and text.

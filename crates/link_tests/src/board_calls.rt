@@ -1,8 +1,8 @@
 //! Calls of boards.
 use crate::noting::{Notes, NotingLink, link_of, no_notes};
-use link_board::base::NoMemory;
-use link_board::nsaps::Target;
-use link_board::{Board, Link, Polled, Ports, Sent};
+use frame_links::link_board::base::NoMemory;
+use frame_links::link_board::nsaps::Target;
+use frame_links::link_board::{Board, Link, Polled, Ports, Sent};
 use std::alloc::Global;
 use std::cell::RefCell;
 use std::process::Abort;

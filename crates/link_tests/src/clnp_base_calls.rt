@@ -1,4 +1,4 @@
-use link_board::base::{
+use frame_links::link_board::base::{
     Failed, MemSink, MemSource, NoMemory, Octets, ReadStop, Sink, Source, StdSink, StdSource,
     decimal, push, push_decimal, push_hex, push_unhex, read_all, write_all,
 };

@@ -1,8 +1,8 @@
 //! Calls of clocks.
 ghost use Rattle.std.specs.Prelude.{IfOk};
-ghost use Rattle.link_board.specs.ClnpBase.Moments.{AreMoments};
+ghost use Rattle.frame_links.specs.ClnpBase.Moments.{AreMoments};
 
-use link_board::base::{Clock, HalfSeconds, MemClock};
+use frame_links::link_board::base::{Clock, HalfSeconds, MemClock};
 use std::alloc::{AllocError, Global};
 
 /// Moments of a clock.

@@ -1,8 +1,8 @@
 //! Calls of links in memory.
 use crate::noting::link_of;
-use link_board::base::Failed;
-use link_board::nsaps::{Snpa, Target};
-use link_board::{Got, Link};
+use frame_links::link_board::base::Failed;
+use frame_links::link_board::nsaps::{Snpa, Target};
+use frame_links::link_board::{Got, Link};
 
 /// What a look comes to: the octets of the frame, and of the point from which it came, where it came through a group.
 #[derive(Clone, Copy)]

@@ -1,9 +1,9 @@
 //! A link that notes what is done with it where a test can see it, since a boxed link can't be asked.
-ghost use Rattle.link_board.specs.Memory.{state_of};
+ghost use Rattle.frame_links.specs.LinkBoard.Memory.{state_of};
 
-use link_board::base::{Failed, NoMemory, Octets};
-use link_board::nsaps::{Snpa, Target};
-use link_board::{Got, Link, MemFrame, MemLink};
+use frame_links::link_board::base::{Failed, NoMemory, Octets};
+use frame_links::link_board::nsaps::{Snpa, Target};
+use frame_links::link_board::{Got, Link, MemFrame, MemLink};
 use std::alloc::Global;
 use std::cell::RefCell;
 use std::rc::Rc;

@@ -2,8 +2,8 @@
 ghost use Rattle.std.specs.Prelude.{◌≤◌};
 
 use crate::pcap_told::is_told;
-use pcap_frames::base::push_unhex;
-use pcap_frames::{PcapFault, PcapReader};
+use frame_links::pcap_frames::base::push_unhex;
+use frame_links::pcap_frames::{PcapFault, PcapReader};
 use std::alloc::Global;
 
 /// A file: its first 24 octets and what follows, in hexadecimal digits, and what it is read as.

@@ -1,7 +1,7 @@
 //! Records read where they stand.
 use crate::pcap_told::tell_record;
-use pcap_frames::base::{NoMemory, push, push_unhex};
-use pcap_frames::{HEADER, first_record, judge_header};
+use frame_links::pcap_frames::base::{NoMemory, push, push_unhex};
+use frame_links::pcap_frames::{HEADER, first_record, judge_header};
 use std::alloc::Global;
 
 /// Appends what the record behind a file's header tells.

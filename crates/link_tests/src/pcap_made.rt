@@ -1,7 +1,7 @@
 //! Files made.
-use pcap_frames::base::{NoMemory, push_hex, push_unhex};
-use pcap_frames::nsaps::Snpa;
-use pcap_frames::{put_frame, put_header};
+use frame_links::pcap_frames::base::{NoMemory, push_hex, push_unhex};
+use frame_links::pcap_frames::nsaps::Snpa;
+use frame_links::pcap_frames::{put_frame, put_header};
 use std::alloc::Global;
 
 /// All intermediate systems.

@@ -2,10 +2,10 @@
 ghost use Rattle.std.specs.Prelude.{◌≤◌, length};
 
 use crate::pcap_made::put;
-use pcap_frames::base::{Failed, NoMemory, push, push_hex, push_unhex};
-use pcap_frames::links::{Got, Link};
-use pcap_frames::nsaps::Target;
-use pcap_frames::{PcapLink, put_header};
+use frame_links::pcap_frames::base::{Failed, NoMemory, push, push_hex, push_unhex};
+use frame_links::pcap_frames::links::{Got, Link};
+use frame_links::pcap_frames::nsaps::Target;
+use frame_links::pcap_frames::{PcapLink, put_header};
 use std::alloc::Global;
 
 /// A file, its first 24 octets and what follows, in hexadecimal digits; how many looks are made, and what they see.

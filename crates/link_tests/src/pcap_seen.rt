@@ -1,6 +1,6 @@
 //! Frames at the bounds of each field.
 use crate::pcap_told::tell_seen;
-use pcap_frames::base::{NoMemory, push, push_unhex};
+use frame_links::pcap_frames::base::{NoMemory, push, push_unhex};
 use std::alloc::Global;
 
 /// A frame in hexadecimal digits, and what is seen in it.

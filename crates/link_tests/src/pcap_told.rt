@@ -1,8 +1,8 @@
 //! What a reader and a look into frames tell, as text.
 ghost use Rattle.std.specs.Prelude.{◌≤◌};
 
-use pcap_frames::base::{NoMemory, push, push_decimal, push_hex};
-use pcap_frames::{PcapFault, PcapReader, Record, Seen, see};
+use frame_links::pcap_frames::base::{NoMemory, push, push_decimal, push_hex};
+use frame_links::pcap_frames::{PcapFault, PcapReader, Record, Seen, see};
 use std::alloc::Global;
 
 /// Appends what a file is read as that comes in pieces of so many octets: a line for each record, and how it ends.

@@ -1,8 +1,8 @@
 //! A link that gives the frames of a text of lines, some of them capture lines.
 ghost use Rattle.std.specs.Prelude.{◌≤◌, length};
 
-use link_board::nsaps::Target;
-use link_board::{Link, RecordedLink};
+use frame_links::link_board::nsaps::Target;
+use frame_links::link_board::{Link, RecordedLink};
 
 /// Lines of which the second and the last are capture lines.
 const TEXT: &[u8] = b"# a comment\n8113\r\n\n811\n81 13\nzz\nAbCd01";

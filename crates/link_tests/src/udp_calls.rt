@@ -2,15 +2,15 @@
 use crate::udp_opening::{
     brings, end_at, free_port, is_silent, lone_link, lone_word, no_traffic, opened,
 };
+use frame_links::udp_links::links::Link;
+use frame_links::udp_links::nsaps::{Snpa, Target};
+use frame_links::udp_links::words::{End, is_link_word};
+use frame_links::udp_links::{LinkFault, UdpLink};
 use std::alloc::{AllocError, Global};
 use std::mem::forget;
 use std::process::Abort;
 use std::rt::Clock;
 use std::time::{Duration, Instant};
-use udp_links::links::Link;
-use udp_links::nsaps::{Snpa, Target};
-use udp_links::words::{End, is_link_word};
-use udp_links::{LinkFault, UdpLink};
 
 /// A data unit of the two octets `hi` from 47002702 to 47002701: its header.
 const HEAD: [u8; 19] = [

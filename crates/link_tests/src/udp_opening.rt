@@ -1,10 +1,10 @@
 //! Links on 127.0.0.1, at ports that are free.
+use frame_links::udp_links::links::{Got, Link};
+use frame_links::udp_links::words::{End, is_link_word};
+use frame_links::udp_links::{Traffic, UdpLink};
 use std::alloc::Global;
 use std::net::{Ipv4Addr, Net, SocketAddr, SocketAddrV4, UdpSocket};
 use std::process::Abort;
-use udp_links::links::{Got, Link};
-use udp_links::words::{End, is_link_word};
-use udp_links::{Traffic, UdpLink};
 
 /// A port that is free just now.
 pub fn free_port<R: Net>(machine: &R) -> Option<u16> {

@@ -1,7 +1,7 @@
 //! Calls on link words.
+use frame_links::udp_links::nsaps::Snpa;
+use frame_links::udp_links::words::{End, LinkEnds, Peer, Role, is_link_word};
 use std::process::Abort;
-use udp_links::nsaps::Snpa;
-use udp_links::words::{End, LinkEnds, Peer, Role, is_link_word};
 
 /// A word of an end, a host and a router.
 const WORD: &[u8] = b"udp:10.0.255.1:258,h1.2.3.4:5,r6.7.8.9:65535";

@@ -1,6 +1,6 @@
 -- Whether the link of any port is attached, port by port.
 use Rattle.std.proofs.Common.{◌≡◌, ◌≤◌, ◌+◌, ℕ, zero, suc, true, false, List, [], ◌∷◌, drop, length, add-one, refl, arith}
-use Rattle.link_board.specs.Ports.{PortState, is_attached_at}
+use Rattle.frame_links.specs.LinkBoard.Ports.{PortState, is_attached_at}
 use Rattle.live_node.specs.Ran.{has_any_attached}
 
 -- one is attached at this place

@@ -8,13 +8,13 @@ use Rattle.clnp_machine.specs.Step.{step}
 use Rattle.clnp_machine.specs.System.{Input, Output, Notes, Transmits, SendsEsis, number_behind}
 use Rattle.clnp_machine.specs.EsisPdus.Spelling.{spelling}
 use Rattle.clnp_machine.specs.Unit.{wire}
-use Rattle.link_board.specs.ClnpBase.Streams.{AppendsFront}
-use Rattle.link_board.specs.Links.{CameFrame}
-use Rattle.link_board.specs.Ports.{PortState}
-use Rattle.live_model.specs.Lines.{NodeLine, lines_text, node_line_text}
-use Rattle.live_model.specs.Node.{Node, Outcome, Played, Goes, Ends, Strays, Sending, and_then, behind, come_all, comes, frame_at, has_link, looks_at, looks_at_each, polls, ports_of, puts_all_out, puts_out, sees, transmits}
-use Rattle.live_model.specs.Parts.{UsesAll}
-use Rattle.live_model.specs.Turn.{takes_turn}
+use Rattle.frame_links.specs.ClnpBase.Streams.{AppendsFront}
+use Rattle.frame_links.specs.LinkBoard.Links.{CameFrame}
+use Rattle.frame_links.specs.LinkBoard.Ports.{PortState}
+use Rattle.clnp_machine.specs.LiveModel.Lines.{NodeLine, lines_text, node_line_text}
+use Rattle.clnp_machine.specs.LiveModel.Node.{Node, Outcome, Played, Goes, Ends, Strays, Sending, and_then, behind, come_all, comes, frame_at, has_link, looks_at, looks_at_each, polls, ports_of, puts_all_out, puts_out, sees, transmits}
+use Rattle.clnp_machine.specs.LiveModel.Parts.{UsesAll}
+use Rattle.clnp_machine.specs.LiveModel.Turn.{takes_turn}
 use Rattle.live_node.specs.declared.node.LiveNode.{LiveNode}
 use Rattle.live_node.specs.Links.{PortsWent}
 use Rattle.live_node.specs.Plays.{Breaks, Plays, PlaysTo, Stands, lines_by, taken_by_then}

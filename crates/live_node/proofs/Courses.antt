@@ -8,14 +8,14 @@ use Rattle.std.proofs.Math.Seq.{take-append-add}
 use Rattle.std.proofs.lemmas.Grind.{flat_map-append}
 use Rattle.std.proofs.lemmas.List.{map-append}
 use Rattle.clnp_machine.specs.ClnpPlan.Journal.{end_text}
-use Rattle.link_board.specs.ClnpBase.Moments.{GivesMoment}
-use Rattle.link_board.specs.ClnpBase.Streams.{AppendsFront}
-use Rattle.link_board.specs.Ports.{PortState}
-use Rattle.live_model.specs.Lines.{NodeLine, lines_text}
-use Rattle.live_model.specs.Node.{Node, Outcome, Played, Goes, Ends, Strays, Sending}
-use Rattle.live_model.specs.Parts.{UsesAll}
-use Rattle.live_model.specs.Turn.{Due, comes_at, due_behind, takes_turn}
-use Rattle.live_model.specs.Course.{Course, Runs, IsOver, Breaks, IsNone, Turn, behind_turn, course, course_behind, goes_on, has_any_link, is_over, journal, moments_of, outcomes_of}
+use Rattle.frame_links.specs.ClnpBase.Moments.{GivesMoment}
+use Rattle.frame_links.specs.ClnpBase.Streams.{AppendsFront}
+use Rattle.frame_links.specs.LinkBoard.Ports.{PortState}
+use Rattle.clnp_machine.specs.LiveModel.Lines.{NodeLine, lines_text}
+use Rattle.clnp_machine.specs.LiveModel.Node.{Node, Outcome, Played, Goes, Ends, Strays, Sending}
+use Rattle.clnp_machine.specs.LiveModel.Parts.{UsesAll}
+use Rattle.clnp_machine.specs.LiveModel.Turn.{Due, comes_at, due_behind, takes_turn}
+use Rattle.clnp_machine.specs.LiveModel.Course.{Course, Runs, IsOver, Breaks, IsNone, Turn, behind_turn, course, course_behind, goes_on, has_any_link, is_over, journal, moments_of, outcomes_of}
 use Rattle.live_node.specs.declared.node.LiveNode.{LiveNode}
 use Rattle.live_node.specs.declared.node.Stop.{Stop}
 use Rattle.live_node.specs.declared.node.Stop.TheVariants as broken

@@ -5,10 +5,10 @@ use Rattle.std.proofs.lemmas.Grind.{flat_map-append}
 use Rattle.std.proofs.lemmas.List.Elements.{filter-append}
 use Rattle.clnp_machine.specs.ClnpPlan.declared.config.Role.{Role}
 use Rattle.clnp_machine.specs.System.{Input}
-use Rattle.scenario_plan.specs.Plan.{ticks_of}
-use Rattle.scenario_plan.specs.declared.event.Event.{Event}
-use Rattle.scenario_plan.specs.declared.event.Event.TheVariants.{Send, Deliver, Settle, Lose, Tick, TickSystem, Restart, Echo, Congest, Inject, Mtu, Route, Unroute, Port}
-use Rattle.live_model.specs.Turn.{Due, asked_by, due_behind, due_by, due_of, dues_from, is_due}
+use Rattle.clnp_plan.specs.ScenarioPlan.Plan.{ticks_of}
+use Rattle.clnp_plan.specs.declared.scenario_plan.event.Event.{Event}
+use Rattle.clnp_plan.specs.declared.scenario_plan.event.Event.TheVariants.{Send, Deliver, Settle, Lose, Tick, TickSystem, Restart, Echo, Congest, Inject, Mtu, Route, Unroute, Port}
+use Rattle.clnp_machine.specs.LiveModel.Turn.{Due, asked_by, due_behind, due_by, due_of, dues_from, is_due}
 use Rattle.live_node.specs.Agenda.{asks_by, dues_of}
 use Rattle.live_node.specs.declared.agenda.Agenda.{Agenda}
 

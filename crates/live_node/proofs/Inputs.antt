@@ -2,9 +2,9 @@
 use Rattle.std.proofs.Common.{◌≡◌, ◌∙◌, ap, refl, sym, ℕ, List, [], ◌∷◌, ◌++◌, append-nil}
 use Rattle.clnp_machine.specs.System.{Input}
 use Rattle.clnp_systems.specs.Stands as clnp_systems
-use Rattle.link_board.specs.Ports.{PortState}
-use Rattle.live_model.specs.Node.{Node, Outcome, Played, Goes, Ends, Strays, and_then, behind, come_all, comes}
-use Rattle.live_model.proofs.Parts.{behind_nothing, then_then}
+use Rattle.frame_links.specs.LinkBoard.Ports.{PortState}
+use Rattle.clnp_machine.specs.LiveModel.Node.{Node, Outcome, Played, Goes, Ends, Strays, and_then, behind, come_all, comes}
+use Rattle.clnp_machine.proofs.LiveModel.Parts.{behind_nothing, then_then}
 use Rattle.live_node.specs.declared.node.LiveNode.{LiveNode}
 use Rattle.live_node.specs.Plays.{Stands}
 

@@ -3,10 +3,10 @@ use Rattle.std.proofs.Common.{◌≡◌, ℕ, List, [], ◌∷◌, ◌++◌, Opt
 use Rattle.std.proofs.KnownBytes.{Appends-nil, Appends-trans}
 use Rattle.std.proofs.lemmas.Grind.{flat_map-append}
 use Rattle.std.specs.Io.KnownBytes.{Appends}
-use Rattle.link_board.specs.Ports.{PortState}
-use Rattle.live_model.specs.Lines.{NodeLine, lines_text, node_line_text}
-use Rattle.live_model.specs.Node.{Node, Outcome, Played, Goes, and_then, behind}
-use Rattle.live_model.proofs.Parts.{behind_both, behind_nothing}
+use Rattle.frame_links.specs.LinkBoard.Ports.{PortState}
+use Rattle.clnp_machine.specs.LiveModel.Lines.{NodeLine, lines_text, node_line_text}
+use Rattle.clnp_machine.specs.LiveModel.Node.{Node, Outcome, Played, Goes, and_then, behind}
+use Rattle.clnp_machine.proofs.LiveModel.Parts.{behind_both, behind_nothing}
 use Rattle.live_node.specs.declared.node.LiveNode.{LiveNode}
 use Rattle.live_node.specs.Plays.{Plays, PlaysTo, Stands}
 use Rattle.live_node.proofs.Ports.{ports_both, ports_same}

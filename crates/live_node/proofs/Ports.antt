@@ -1,10 +1,10 @@
 -- What ports go through, one part of a run after another.
 use Rattle.std.proofs.Common.{◌≡◌, ◌≢◌, ℕ, zero, suc, ◌+◌, ◌<◌, ◌≤◌, ◌⊎◌, inl, inr, Bool, true, false, List, [], ◌∷◌, ◌++◌, length, Option, None, Some, refl, sym, ap, ◌∙◌, append_assoc, append-nil, arith}
 use Rattle.std.specs.Prelude.{◌==◌, slice_get, slice_set, if◌then◌else◌}
-use Rattle.link_board.specs.ClnpBase.Streams.{Rose}
-use Rattle.link_board.specs.Links.{CameFrame, SentFrame, LinkState, Grows}
-use Rattle.link_board.specs.Ports.{PortState}
-use Rattle.live_model.specs.Node.{Outcome, Saw, LookFailed, Took, SendFailed, Sending}
+use Rattle.frame_links.specs.ClnpBase.Streams.{Rose}
+use Rattle.frame_links.specs.LinkBoard.Links.{CameFrame, SentFrame, LinkState, Grows}
+use Rattle.frame_links.specs.LinkBoard.Ports.{PortState}
+use Rattle.clnp_machine.specs.LiveModel.Node.{Outcome, Saw, LookFailed, Took, SendFailed, Sending}
 use Rattle.live_node.specs.Links.{LinkGoes, LinkWent, PortWent, PortsWent, faults_of, has_empty, looks_in, taken_by}
 
 -- ---- outcomes and frames, one part and then the next

@@ -8,14 +8,14 @@ use Rattle.clnp_machine.specs.ClnpPlan.Journal.{end_text}
 use Rattle.clnp_machine.specs.ClnpPlan.declared.config.Role.{Role}
 use Rattle.clnp_machine.specs.ClnpPlan.declared.config.Role.TheVariants.{Host, Router}
 use Rattle.clnp_machine.specs.ClnpPlan.declared.config.PortConfig.{PortConfig}
-use Rattle.link_board.specs.ClnpBase.Moments.{GivesMoment}
-use Rattle.link_board.specs.ClnpBase.Streams.{AppendsFront}
-use Rattle.link_board.specs.Ports.{PortState}
-use Rattle.scenario_plan.specs.Plan.{Plan}
-use Rattle.live_model.specs.Lines.{lines_text}
-use Rattle.live_model.specs.Node.{Node, Sending}
-use Rattle.live_model.specs.Turn.{Due, dues_from}
-use Rattle.live_model.specs.Course.{Course, Runs, Transcript, Turn, course, first_node, journal, node_run, outcomes_of, run_of}
+use Rattle.frame_links.specs.ClnpBase.Moments.{GivesMoment}
+use Rattle.frame_links.specs.ClnpBase.Streams.{AppendsFront}
+use Rattle.frame_links.specs.LinkBoard.Ports.{PortState}
+use Rattle.clnp_plan.specs.ScenarioPlan.Plan.{Plan}
+use Rattle.clnp_machine.specs.LiveModel.Lines.{lines_text}
+use Rattle.clnp_machine.specs.LiveModel.Node.{Node, Sending}
+use Rattle.clnp_machine.specs.LiveModel.Turn.{Due, dues_from}
+use Rattle.clnp_machine.specs.LiveModel.Course.{Course, Runs, Transcript, Turn, course, first_node, journal, node_run, outcomes_of, run_of}
 use Rattle.live_node.specs.declared.node.LiveNode.{LiveNode}
 use Rattle.live_node.specs.declared.run.RunStop.{RunStop}
 use Rattle.live_node.specs.declared.run.RunStop.TheVariants.{WriteFault, LinksGone, NoMemory}

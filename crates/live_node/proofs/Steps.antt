@@ -17,7 +17,7 @@ use Rattle.clnp_machine.specs.ClnpPlan.declared.output.Sending as plan_sending
 use Rattle.clnp_machine.specs.Content.{Content}
 use Rattle.clnp_machine.specs.Step.{step}
 use Rattle.clnp_machine.specs.EsisPdus.Spelling.{spelling}
-use Rattle.clnp_machine.specs.Nsap.declared.target.Target.{Target}
+use Rattle.clnp_machine.specs.Pdus.declared.nsap.target.Target.{Target}
 use Rattle.clnp_machine.specs.Unit.{wire}
 use Rattle.clnp_machine.specs.System as machine
 use Rattle.clnp_machine.specs.System.{number_behind}
@@ -25,12 +25,12 @@ use Rattle.clnp_systems.specs.Stands as clnp_systems
 use Rattle.clnp_systems.specs.Steps.{TakesStep, input_with, moment_at}
 use Rattle.clnp_systems.specs.declared.input.Input.{Input}
 use Rattle.clnp_systems.specs.declared.system.System.{System}
-use Rattle.link_board.specs.ClnpBase.Streams.{AppendsFront}
-use Rattle.link_board.specs.Links.{CameFrame, FailedOnce, LinkState, Looked, SentFrame, SentOne}
-use Rattle.link_board.specs.Ports.{ChangesPort, Detaches, LooksAt, PortState, SendsOn, is_attached, is_attached_at}
-use Rattle.live_model.specs.Lines.{LinkGone, NodeLine, Says, lines_text, node_line_text}
-use Rattle.live_model.specs.Node.{Node, Outcome, Saw, LookFailed, Took, SendFailed, Played, Goes, Ends, Strays, Sending, counted, detached, gives, has_link, is_on, looks_at, looks_by, loss, polls, ports_of, puts_out, sees, transmission, transmits}
-use Rattle.live_model.specs.Parts.{UsesAll}
+use Rattle.frame_links.specs.ClnpBase.Streams.{AppendsFront}
+use Rattle.frame_links.specs.LinkBoard.Links.{CameFrame, FailedOnce, LinkState, Looked, SentFrame, SentOne}
+use Rattle.frame_links.specs.LinkBoard.Ports.{ChangesPort, Detaches, LooksAt, PortState, SendsOn, is_attached, is_attached_at}
+use Rattle.clnp_machine.specs.LiveModel.Lines.{LinkGone, NodeLine, Says, lines_text, node_line_text}
+use Rattle.clnp_machine.specs.LiveModel.Node.{Node, Outcome, Saw, LookFailed, Took, SendFailed, Played, Goes, Ends, Strays, Sending, counted, detached, gives, has_link, is_on, looks_at, looks_by, loss, polls, ports_of, puts_out, sees, transmission, transmits}
+use Rattle.clnp_machine.specs.LiveModel.Parts.{UsesAll}
 use Rattle.live_node.specs.declared.node.LiveNode.{LiveNode}
 use Rattle.live_node.specs.Links.{LinkGoes, LinkWent, PortWent, PortsWent, looks_in}
 use Rattle.live_node.specs.Outputs.{GoesOut, PutAllOut, PutsOut}

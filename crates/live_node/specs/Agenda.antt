@@ -3,8 +3,8 @@ use Rattle.std.specs.Prelude.{ℕ, List, drop}
 use Rattle.std.specs.List.{flat_map}
 use Rattle.clnp_machine.specs.ClnpPlan.declared.config.Role.{Role}
 use Rattle.clnp_machine.specs.System.{Input}
-use Rattle.scenario_plan.specs.declared.event.Event.{Event}
-use Rattle.live_model.specs.Turn.{Due, asked_by, due_by, dues_from}
+use Rattle.clnp_plan.specs.declared.scenario_plan.event.Event.{Event}
+use Rattle.clnp_machine.specs.LiveModel.Turn.{Due, asked_by, due_by, dues_from}
 use Rattle.live_node.specs.declared.agenda.Agenda.{Agenda}
 
 -- the events that are still to be done, each with the moment from which on it is due

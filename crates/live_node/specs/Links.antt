@@ -1,9 +1,9 @@
 -- What links go through in a part of a run, by its outcomes and the frames that they took.
 use Rattle.std.specs.Prelude.{◌≡◌, ℕ, suc, ◌≤◌, ◌==◌, Bool, true, false, if◌then◌else◌, List, [], ◌∷◌, Option, None, Some}
-use Rattle.link_board.specs.ClnpBase.Streams.{Rose}
-use Rattle.link_board.specs.Links.{CameFrame, SentFrame, LinkState, Grows}
-use Rattle.link_board.specs.Ports.{PortState}
-use Rattle.live_model.specs.Node.{Outcome, Saw, LookFailed, Took, SendFailed, Sending}
+use Rattle.frame_links.specs.ClnpBase.Streams.{Rose}
+use Rattle.frame_links.specs.LinkBoard.Links.{CameFrame, SentFrame, LinkState, Grows}
+use Rattle.frame_links.specs.LinkBoard.Ports.{PortState}
+use Rattle.clnp_machine.specs.LiveModel.Node.{Outcome, Saw, LookFailed, Took, SendFailed, Sending}
 
 -- what the looks at a port saw
 abbrev pub looks_in : (port : ℕ) → List Outcome → List (Option CameFrame)

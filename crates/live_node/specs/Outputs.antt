@@ -4,7 +4,7 @@ use Rattle.clnp_machine.specs.ClnpPlan.declared.output.Output.{Output}
 use Rattle.clnp_machine.specs.ClnpPlan.declared.output.Output.TheVariants.{Transmit, Note}
 use Rattle.clnp_machine.specs.ClnpPlan.declared.output.Sending as plan_sending
 use Rattle.clnp_machine.specs.EsisPdus.Spelling.{spelling}
-use Rattle.clnp_machine.specs.Nsap.declared.target.Target.{Target}
+use Rattle.clnp_machine.specs.Pdus.declared.nsap.target.Target.{Target}
 use Rattle.clnp_machine.specs.System as machine
 use Rattle.clnp_machine.specs.Unit.{wire}
 

@@ -2,11 +2,11 @@
 -- ports' links.
 use Rattle.std.specs.Prelude.{◌≡◌, ℕ, Bool, List, [], ◌++◌, map, Option}
 use Rattle.std.specs.Io.KnownBytes.{Appends}
-use Rattle.link_board.specs.Ports.{PortState}
+use Rattle.frame_links.specs.LinkBoard.Ports.{PortState}
 use Rattle.clnp_systems.specs.Stands as clnp_systems
-use Rattle.live_model.specs.Lines.{NodeLine, lines_text}
-use Rattle.live_model.specs.Node.{Node, Outcome, Played, Goes, Ends, Strays, Sending, behind}
-use Rattle.live_model.specs.Parts.{UsesAll}
+use Rattle.clnp_machine.specs.LiveModel.Lines.{NodeLine, lines_text}
+use Rattle.clnp_machine.specs.LiveModel.Node.{Node, Outcome, Played, Goes, Ends, Strays, Sending, behind}
+use Rattle.clnp_machine.specs.LiveModel.Parts.{UsesAll}
 use Rattle.live_node.specs.Links.{PortsWent}
 use Rattle.live_node.specs.declared.node.LiveNode.{LiveNode}
 

@@ -2,14 +2,14 @@
 use Rattle.std.specs.Prelude.{◌≡◌, ◌≤◌, ℕ, Bool, false, List, [], ◌∷◌, ◌++◌, length, Option, Result, Ok, Err}
 use Rattle.std.specs.Io.KnownBytes.{Appends}
 use Rattle.std.specs.List.{AllByRecursion, list_any}
-use Rattle.link_board.specs.ClnpBase.Moments.{GivesMoment}
-use Rattle.link_board.specs.ClnpBase.Streams.{AppendsFront}
-use Rattle.link_board.specs.Ports.{PortState}
-use Rattle.scenario_plan.specs.Plan.{Plan}
-use Rattle.live_model.specs.Lines.{NodeLine, lines_text}
-use Rattle.live_model.specs.Node.{Node, Sending}
-use Rattle.live_model.specs.Turn.{Due}
-use Rattle.live_model.specs.Course.{Course, Runs, IsOver, Breaks, IsNone, Transcript, Turn, course, course_behind, journal, moments_of, node_run, outcomes_of}
+use Rattle.frame_links.specs.ClnpBase.Moments.{GivesMoment}
+use Rattle.frame_links.specs.ClnpBase.Streams.{AppendsFront}
+use Rattle.frame_links.specs.LinkBoard.Ports.{PortState}
+use Rattle.clnp_plan.specs.ScenarioPlan.Plan.{Plan}
+use Rattle.clnp_machine.specs.LiveModel.Lines.{NodeLine, lines_text}
+use Rattle.clnp_machine.specs.LiveModel.Node.{Node, Sending}
+use Rattle.clnp_machine.specs.LiveModel.Turn.{Due}
+use Rattle.clnp_machine.specs.LiveModel.Course.{Course, Runs, IsOver, Breaks, IsNone, Transcript, Turn, course, course_behind, journal, moments_of, node_run, outcomes_of}
 use Rattle.live_node.specs.Links.{PortsWent}
 use Rattle.live_node.specs.Plays.{Stands, attached_of}
 use Rattle.live_node.specs.declared.node.LiveNode.{LiveNode}

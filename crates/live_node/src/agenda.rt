@@ -1,8 +1,8 @@
 //! Which events of a scenario a node has still to do.
 ghost use Rattle.std.specs.Prelude.{◌≡◌, ◌<◌, ◌+◌, ◌^◌};
-ghost use Rattle.scenario_plan.specs.Plan.{ticks_of};
+ghost use Rattle.clnp_plan.specs.ScenarioPlan.Plan.{ticks_of};
 
-use scenario_plan::Event;
+use clnp_plan::scenario_plan::Event;
 
 /// The place of the next event of a scenario, and the moment at which the ticks before it are over.
 #[derive(Clone, Copy)]

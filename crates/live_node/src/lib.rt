@@ -3,6 +3,7 @@
 
 mod agenda;
 mod lines;
+pub mod live_commands;
 mod looks;
 mod node;
 mod outputs;
@@ -13,5 +14,5 @@ pub use run::{RunStop, run_node};
 
 /// What a board of links is to a node.
 pub mod boards {
-    pub use link_board::Ports;
+    pub use frame_links::link_board::Ports;
 }

@@ -3,13 +3,13 @@ ghost use Rattle.std.specs.Prelude.{◌≡◌, ◌≤◌, OnOk, OnErr, IfOk, Err
 ghost use Rattle.std.specs.Io.KnownBytes.{Appends};
 ghost use Rattle.clnp_machine.specs.ClnpBase.Streams.{AppendsFront, Rose};
 ghost use Rattle.clnp_machine.specs.ClnpPlan.Journal.{Noted, Transmitted};
-ghost use Rattle.live_model.specs.Lines.{LinkGone, Says, node_line_text};
+ghost use Rattle.clnp_machine.specs.LiveModel.Lines.{LinkGone, Says, node_line_text};
 
 use crate::node::Stop;
 use clnp_machine::nsaps::Target;
 use clnp_machine::system_plan::{Note, journal_text, transmission_text};
 use clnp_machine::views::Frame;
-use link_board::base::{NoMemory, Sink, push, push_decimal, write_all};
+use frame_links::link_board::base::{NoMemory, Sink, push, push_decimal, write_all};
 use std::alloc::Global;
 
 /// Writes the line of a note of a system.

@@ -2,7 +2,7 @@
 ghost use Rattle.std.specs.Prelude.{◌≡◌, ◌≤◌, ◌<◌, OnOk, OnErr, Err, Some, length};
 ghost use Rattle.clnp_machine.specs.ClnpBase.Streams.{Rose};
 ghost use Rattle.clnp_systems.specs.Stands as clnp_systems;
-ghost use Rattle.live_model.specs.Node as model;
+ghost use Rattle.clnp_machine.specs.LiveModel.Node as model;
 ghost use Rattle.live_node.specs.Plays.{Breaks, Plays, Stands};
 
 use crate::lines::write_loss;
@@ -10,8 +10,8 @@ use crate::node::{LiveNode, Stop};
 use clnp_machine::nsaps::Snpa;
 use clnp_machine::views::Frame;
 use clnp_systems::Input;
-use link_board::base::Sink;
-use link_board::{Polled, Ports};
+use frame_links::link_board::base::Sink;
+use frame_links::link_board::{Polled, Ports};
 use std::alloc::Global;
 
 impl LiveNode {

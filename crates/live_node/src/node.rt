@@ -5,13 +5,13 @@ ghost use Rattle.clnp_machine.specs.System.{first_state};
 ghost use Rattle.clnp_systems.specs.Stands as clnp_systems;
 ghost use Rattle.clnp_systems.specs.Steps.{Carries, MayCome, input_with, moment_at};
 ghost use Rattle.clnp_machine.specs.ClnpBase.Streams.{Rose};
-ghost use Rattle.live_model.specs.Node as model;
+ghost use Rattle.clnp_machine.specs.LiveModel.Node as model;
 ghost use Rattle.live_node.specs.Plays.{Breaks, Plays, Stands};
 
 use clnp_machine::system_plan::{Limits, SystemConfig};
 use clnp_systems::{Input, System};
-use link_board::Ports;
-use link_board::base::{NoMemory, Sink};
+use frame_links::link_board::Ports;
+use frame_links::link_board::base::{NoMemory, Sink};
 use std::alloc::Global;
 
 /// Why a turn was broken off.

@@ -2,15 +2,15 @@
 ghost use Rattle.std.specs.Prelude.{◌≡◌, ◌≤◌, List, OnOk, OnErr, Err, length};
 ghost use Rattle.clnp_machine.specs.ClnpBase.Streams.{Rose};
 ghost use Rattle.clnp_machine.specs.System as machine;
-ghost use Rattle.live_model.specs.Node as model;
+ghost use Rattle.clnp_machine.specs.LiveModel.Node as model;
 ghost use Rattle.live_node.specs.Outputs.{PutAllOut, PutsOut};
 ghost use Rattle.live_node.specs.Plays.{Breaks, Plays, Stands};
 
 use crate::lines::{write_loss, write_note, write_transmission};
 use crate::node::{LiveNode, Stop};
 use clnp_machine::system_plan::{Output, Sending};
-use link_board::base::Sink;
-use link_board::{Ports, Sent};
+use frame_links::link_board::base::Sink;
+use frame_links::link_board::{Ports, Sent};
 use std::alloc::Global;
 
 impl LiveNode {

@@ -6,21 +6,21 @@ ghost use Rattle.clnp_machine.specs.ClnpPlan.Configuration.{SystemConfiguration}
 ghost use Rattle.clnp_machine.specs.ClnpPlan.Journal.{end_text};
 ghost use Rattle.clnp_machine.specs.ClnpBase.Moments.{GivesMoment};
 ghost use Rattle.clnp_systems.specs.Stands as clnp_systems;
-ghost use Rattle.link_board.specs.Ports.{PortState};
-ghost use Rattle.live_model.specs.Course.{first_node};
-ghost use Rattle.live_model.specs.Node as model;
-ghost use Rattle.live_model.specs.Turn.{Due, dues_from};
+ghost use Rattle.frame_links.specs.LinkBoard.Ports.{PortState};
+ghost use Rattle.clnp_machine.specs.LiveModel.Course.{first_node};
+ghost use Rattle.clnp_machine.specs.LiveModel.Node as model;
+ghost use Rattle.clnp_machine.specs.LiveModel.Turn.{Due, dues_from};
 ghost use Rattle.live_node.specs.Agenda.{dues_of};
-ghost use Rattle.scenario_plan.specs.Plan.{IsForBoard};
+ghost use Rattle.clnp_plan.specs.ScenarioPlan.Plan.{IsForBoard};
 ghost use Rattle.live_node.specs.Plays.{Stands, attached_of};
 ghost use Rattle.live_node.specs.Ran.{IsBroken, RanOf, RanTo, StopsIn, broken_by, has_any_attached};
 
 use crate::agenda::Agenda;
 use crate::node::{LiveNode, Stop};
 use clnp_machine::system_plan::push_end;
-use link_board::Ports;
-use link_board::base::{Clock, NoMemory, Sink, write_all};
-use scenario_plan::Scenario;
+use clnp_plan::scenario_plan::Scenario;
+use frame_links::link_board::Ports;
+use frame_links::link_board::base::{Clock, NoMemory, Sink, write_all};
 use std::alloc::Global;
 
 /// Why a run of a live node stopped before its last turn was over.

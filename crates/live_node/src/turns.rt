@@ -5,9 +5,9 @@ ghost use Rattle.clnp_machine.specs.ClnpOptions.Grammar.{FitsKind};
 ghost use Rattle.clnp_machine.specs.ClnpOptions.Parameter.{parameters};
 ghost use Rattle.clnp_machine.specs.System.{AsksForEcho, AsksToSend};
 ghost use Rattle.clnp_systems.specs.Stands as clnp_systems;
-ghost use Rattle.scenario_plan.specs.Plan.{AsksFairly, octets_of};
-ghost use Rattle.live_model.specs.Node as model;
-ghost use Rattle.live_model.specs.Turn.{asked_by, comes_at, due_behind, of_host, takes_turn};
+ghost use Rattle.clnp_plan.specs.ScenarioPlan.Plan.{AsksFairly, octets_of};
+ghost use Rattle.clnp_machine.specs.LiveModel.Node as model;
+ghost use Rattle.clnp_machine.specs.LiveModel.Turn.{asked_by, comes_at, due_behind, of_host, takes_turn};
 ghost use Rattle.live_node.specs.Agenda.{asks_by, dues_of};
 ghost use Rattle.live_node.specs.Plays.{Breaks, Plays, Stands};
 
@@ -16,10 +16,10 @@ use crate::node::{LiveNode, Stop};
 use clnp_machine::nsaps::Address;
 use clnp_machine::system_plan::{Ask, Role};
 use clnp_machine::views::Frame;
+use clnp_plan::scenario_plan::{Body, Event, Scenario};
 use clnp_systems::Input;
-use link_board::Ports;
-use link_board::base::Sink;
-use scenario_plan::{Body, Event, Scenario};
+use frame_links::link_board::Ports;
+use frame_links::link_board::base::Sink;
 use std::alloc::Global;
 
 /// Names the types that an input may hold: the prover has to be told of them where an input is made. The function does nothing.

@@ -1,7 +1,7 @@
 use crate::seeing::see;
 use clnp_program::{Advice, Status, clnp_main};
-use link_board::Board;
-use link_board::base::{Failed, MemClock, MemSink, MemSource, Sink, Source};
+use frame_links::link_board::Board;
+use frame_links::link_board::base::{Failed, MemClock, MemSink, MemSource, Sink, Source};
 use std::alloc::Global;
 use std::mem::forget;
 use std::process::Abort;

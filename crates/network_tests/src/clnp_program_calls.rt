@@ -1,7 +1,7 @@
 use crate::seeing::see;
 use clnp_program::{Status, end, run};
-use link_board::Board;
-use link_board::base::{MemClock, MemSink, MemSource};
+use frame_links::link_board::Board;
+use frame_links::link_board::base::{MemClock, MemSink, MemSource};
 use std::alloc::Global;
 use std::mem::forget;
 use std::process::Abort;

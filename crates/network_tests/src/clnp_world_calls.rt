@@ -2,7 +2,7 @@ use crate::seeing::see;
 use clnp_machine::system_plan::Telling;
 use clnp_program::scenarios::{Scenario, read};
 use clnp_program::worlds::{Counts, Move, World};
-use link_board::base::lines;
+use frame_links::link_board::base::lines;
 use std::alloc::Global;
 use std::mem::forget;
 use std::process::Abort;

@@ -1,9 +1,9 @@
 //! A run over a link that plays an Ethernet capture.
 
 use crate::live_running::{new_sink, run};
-use link_board::base::NoMemory;
-use link_board::{Board, Link};
-use pcap_frames::PcapLink;
+use frame_links::link_board::base::NoMemory;
+use frame_links::link_board::{Board, Link};
+use frame_links::pcap_frames::PcapLink;
 use std::alloc::Global;
 use std::mem::forget;
 

@@ -1,6 +1,6 @@
 //! The clock of a test.
 ghost use Rattle.std.specs.Prelude.{IfOk};
-ghost use Rattle.link_board.specs.ClnpBase.Moments.{AreMoments};
+ghost use Rattle.frame_links.specs.ClnpBase.Moments.{AreMoments};
 
 use std::alloc::{AllocError, Global};
 

@@ -1,8 +1,8 @@
 //! Runs of a node, and what they say.
 
 use crate::live_clock::moments;
-use link_board::Ports;
-use link_board::base::{MemClock, MemSink, NoMemory, lines};
+use frame_links::link_board::Ports;
+use frame_links::link_board::base::{MemClock, MemSink, NoMemory, lines};
 use live_node::{RunStop, run_node};
 use scenario::read_for_run;
 use std::alloc::Global;

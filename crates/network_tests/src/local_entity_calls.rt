@@ -10,7 +10,7 @@ use clnp_machine::system_plan::{Ask, Limits, SystemConfig, journal_text};
 use clnp_machine::views::Frame;
 use clnp_program::scenarios::{Scenario, read};
 use clnp_systems::{Action, DrawRefusal, IdPool, Local};
-use link_board::base::{NoMemory, lines, push, push_decimal};
+use frame_links::link_board::base::{NoMemory, lines, push, push_decimal};
 use std::alloc::Global;
 use std::mem::forget;
 use std::process::Abort;

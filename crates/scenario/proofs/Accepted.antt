@@ -10,14 +10,14 @@ use Rattle.clnp_plan.specs.ClnpBase.Text.{lines_of, words_of, is_skipped}
 use Rattle.clnp_plan.proofs.ClnpBase.Lists.{AllByRecursion-implies}
 use Rattle.clnp_plan.specs.Configuration.{SystemConfiguration, IsSystem, IsWithin}
 use Rattle.clnp_plan.specs.declared.config.Limits.{Limits}
-use Rattle.scenario_plan.specs.Plan.{Plan, Subnetwork, IsFit, AsksFairly, AsksInForm, ChangesInForm, InjectsInForm, IsOfVersion1, IsPlaced, IsFromHost, IsOfRouter, IsSaid, passed_by, ticks_of}
-use Rattle.scenario_plan.specs.Standing.{EachMayCome}
+use Rattle.clnp_plan.specs.ScenarioPlan.Plan.{Plan, Subnetwork, IsFit, AsksFairly, AsksInForm, ChangesInForm, InjectsInForm, IsOfVersion1, IsPlaced, IsFromHost, IsOfRouter, IsSaid, passed_by, ticks_of}
+use Rattle.clnp_plan.specs.ScenarioPlan.Standing.{EachMayCome}
 use Rattle.scenario.specs.Words.{found}
 use Rattle.scenario.specs.Declarations.{Declarations, DeclaredSystem, nothing_declared, limits_of, snpas_on, configuration_of}
 use Rattle.scenario.specs.Events.{Scene, first_scene, scene_after, event_line, counted, are_few, nothing_counted}
 use Rattle.scenario.specs.Grammar.{ReadTo, is_line_of, version_of, header_from, declarations_from, nothing_after, counted_event, event_for, events_from, fit_for, plan_at}
 use Rattle.scenario.specs.declared.counts.Counts.{Counts}
-use Rattle.scenario_plan.specs.declared.event.Event.{Event}
+use Rattle.clnp_plan.specs.declared.scenario_plan.event.Event.{Event}
 use Rattle.clnp_plan.proofs.ClnpBase.Choices.{one_of}
 use Rattle.scenario.specs.declared.code.Code.TheVariants as bad
 use Rattle.scenario.proofs.Behind.{behind_result, behind_wanted, behind_such, behind_line_such, either_way, is_within}

@@ -1,7 +1,7 @@
 -- What is read as a text of version 1 alone.
 use Rattle.std.proofs.Common.{◌≡◌, ℕ, List, Result, Ok, Err, IfOk}
 use Rattle.std.specs.Prelude.{◌↔◌, MatchResult}
-use Rattle.scenario_plan.specs.Plan.{Plan}
+use Rattle.clnp_plan.specs.ScenarioPlan.Plan.{Plan}
 use Rattle.scenario.specs.Grammar.{plan_of, plan_of_version_1}
 use Rattle.scenario.specs.Refusal.{Refuses}
 use Rattle.scenario.specs.declared.fault.ScenarioRefusal.{ScenarioRefusal}

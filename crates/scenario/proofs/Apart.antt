@@ -8,7 +8,7 @@ use Rattle.std.proofs.lemmas.List.Kept.{AllPairs-cons}
 use Rattle.std.proofs.lemmas.Option.{slice_get_within, get_or_from_slice_get}
 use Rattle.clnp_plan.proofs.ClnpBase.Lists.{AllByRecursion-put, AllByRecursion-front, AllByRecursion-from_places}
 use Rattle.scenario.specs.Declarations.{DeclaredSystem, with_address, with_port, NumberedPort, configuration_of}
-use Rattle.scenario_plan.specs.Standing.{changed_at, is_among}
+use Rattle.clnp_plan.specs.ScenarioPlan.Standing.{changed_at, is_among}
 
 -- all addresses of some systems
 abbrev pub addresses_of : List DeclaredSystem → List (List ℕ)

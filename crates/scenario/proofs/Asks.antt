@@ -7,11 +7,11 @@ use Rattle.clnp_plan.specs.ClnpOptions.Grammar.{FitsKind, Spells}
 use Rattle.clnp_plan.specs.ClnpOptions.Parameter.{parameters, parameters_after}
 use Rattle.clnp_plan.specs.ClnpOptions.Rules.{Accepts, refusal}
 use Rattle.clnp_plan.specs.Configuration.{SystemConfiguration}
-use Rattle.scenario_plan.specs.Plan.{AsksFairly}
+use Rattle.clnp_plan.specs.ScenarioPlan.Plan.{AsksFairly}
 use Rattle.scenario.specs.Words.{literal, has_prefix, declared_word, address_word, data_word, number_word, life_word, octets_behind, options_read, options_word, one_word, two_words, four_words, first_four, each_once}
 use Rattle.scenario.specs.Events.{wish_word, wish_words, wish_key, options_in, host_word, send_line, deliver_line, count_line, restart_line, echo_line, router_word, on_word, congest_line, Scene, event_line}
 use Rattle.scenario.specs.declared.code.Code.TheVariants as bad
-use Rattle.scenario_plan.specs.declared.event.Event.TheVariants.{Settle, Lose}
+use Rattle.clnp_plan.specs.declared.scenario_plan.event.Event.TheVariants.{Settle, Lose}
 use Rattle.scenario.specs.declared.wish.Wish.{Wish}
 use Rattle.scenario.specs.declared.wish.Wish.TheVariants.{Lasting, Whole, Options}
 use Rattle.scenario.proofs.Behind.{behind_result, behind_found, behind_wanted, behind_such, either_way, wishes_such, options_such}

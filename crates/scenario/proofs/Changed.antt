@@ -5,14 +5,14 @@ use Rattle.std.specs.Str.{bytes_eq}
 use Rattle.std.proofs.lemmas.Bool.{cases_Bool, eq-eqb, not-true, or_parts, true≢false}
 use Rattle.clnp_plan.specs.ClnpBase.Text.{decimal_of}
 use Rattle.clnp_plan.specs.Configuration.{IsWithin, SystemConfiguration}
-use Rattle.clnp_plan.specs.Forwarding.declared.route.Route.{Route}
+use Rattle.clnp_plan.specs.SystemTables.declared.forwarding.route.Route.{Route}
 use Rattle.scenario.specs.Events.{Scene, is_router_at, router_word, has_number, port_word, mtu_line, route_line, unroute_line, port_line, change_line, tick_line, tick_system_line, ticks_line}
-use Rattle.scenario_plan.specs.Standing.{is_rival, is_second, runs_ahead, takes_prefix}
+use Rattle.clnp_plan.specs.ScenarioPlan.Standing.{is_rival, is_second, runs_ahead, takes_prefix}
 use Rattle.scenario.specs.Words.{declared_word, number_word, is_digits, address_word, prefix_word, one_word, two_words, four_words, five_words, is_one_at_most}
 use Rattle.scenario.specs.declared.code.Code.{Code}
 use Rattle.scenario.specs.declared.code.Code.TheVariants as bad
-use Rattle.scenario_plan.specs.declared.event.Event.{Event}
-use Rattle.scenario_plan.specs.declared.event.Event.TheVariants as event
+use Rattle.clnp_plan.specs.declared.scenario_plan.event.Event.{Event}
+use Rattle.clnp_plan.specs.declared.scenario_plan.event.Event.TheVariants as event
 use Rattle.scenario.proofs.Behind.{behind_result, behind_found, behind_wanted, behind_such, either_way, declared_is_within, found_is_within, number_is_within}
 
 -- some word is read as this

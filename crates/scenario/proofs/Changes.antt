@@ -7,11 +7,11 @@ use Rattle.clnp_plan.specs.Nsap.Address.{IsAddress}
 use Rattle.clnp_plan.specs.Nsap.Prefix.{IsPrefix}
 use Rattle.clnp_plan.specs.Configuration.{SystemConfiguration}
 use Rattle.scenario.specs.Events.{Scene, count_line, event_line, has_number}
-use Rattle.scenario_plan.specs.Plan.{ChangesInForm, HasNumber, IsOfVersion1}
-use Rattle.scenario_plan.specs.Standing.{MayCome}
+use Rattle.clnp_plan.specs.ScenarioPlan.Plan.{ChangesInForm, HasNumber, IsOfVersion1}
+use Rattle.clnp_plan.specs.ScenarioPlan.Standing.{MayCome}
 use Rattle.scenario.specs.Words.{address_word, prefix_word}
-use Rattle.scenario_plan.specs.declared.event.Event.{Event}
-use Rattle.scenario_plan.specs.declared.event.Event.TheVariants.{Settle, Lose}
+use Rattle.clnp_plan.specs.declared.scenario_plan.event.Event.{Event}
+use Rattle.clnp_plan.specs.declared.scenario_plan.event.Event.TheVariants.{Settle, Lose}
 use Rattle.scenario.proofs.Behind.{behind_result, either_way}
 use Rattle.scenario.proofs.Changed.{IsRead, change_such, ticks_such}
 use Rattle.scenario.proofs.Forms.{Laws, address_formed}

@@ -5,12 +5,12 @@ use Rattle.std.proofs.lemmas.Bool.{and_parts, le-ltb, leb-true}
 use Rattle.clnp_plan.specs.Configuration.{SystemConfiguration}
 use Rattle.clnp_plan.proofs.ClnpBase.Lists.{AllByRecursion-implies}
 use Rattle.scenario.specs.Events.{are_few}
-use Rattle.scenario_plan.specs.Plan.{ticks_of}
-use Rattle.scenario_plan.specs.Standing.{changed_at, clocks_after, first_clocks, is_ahead}
+use Rattle.clnp_plan.specs.ScenarioPlan.Plan.{ticks_of}
+use Rattle.clnp_plan.specs.ScenarioPlan.Standing.{changed_at, clocks_after, first_clocks, is_ahead}
 use Rattle.scenario.specs.declared.counts.Counts.{Counts}
-use Rattle.scenario_plan.specs.declared.event.Event.{Event}
-use Rattle.scenario_plan.specs.declared.event.Event.TheVariants as event
-use Rattle.scenario_plan.specs.declared.event.Event.TheVariants.{Send, Deliver, Settle, Lose, Tick, Restart, Echo, Congest, Inject}
+use Rattle.clnp_plan.specs.declared.scenario_plan.event.Event.{Event}
+use Rattle.clnp_plan.specs.declared.scenario_plan.event.Event.TheVariants as event
+use Rattle.clnp_plan.specs.declared.scenario_plan.event.Event.TheVariants.{Send, Deliver, Settle, Lose, Tick, Restart, Echo, Congest, Inject}
 
 -- no clock is past so many ticks
 abbrev pub AreSlow : (ticks : ℕ) → List ℕ → Type 0

@@ -10,17 +10,17 @@ use Rattle.std.proofs.lemmas.List.Sums.{count_by-le-length}
 use Rattle.clnp_plan.proofs.ClnpBase.Lists.{AllByRecursion-mapped, AllByRecursion-push}
 use Rattle.clnp_plan.specs.ClnpBase.Text.{decimal_of, words_of, is_skipped}
 use Rattle.clnp_plan.specs.Forwarding.Distinct as prefixes
-use Rattle.clnp_plan.specs.Forwarding.declared.route.Route.{Route}
+use Rattle.clnp_plan.specs.SystemTables.declared.forwarding.route.Route.{Route}
 use Rattle.clnp_plan.proofs.Forwarding.Prefixes.{AreDistinct-push}
 use Rattle.clnp_plan.specs.Configuration.{IsWithin, HasItsAddresses, HasItsPorts, HasItsRoutes, IsPort, IsSystem, AreSettings, AreLimits, SystemConfiguration}
 use Rattle.clnp_plan.specs.declared.config.PortConfig.{PortConfig}
 use Rattle.clnp_plan.specs.declared.config.Role.{Role}
 use Rattle.clnp_plan.specs.declared.config.Role.TheVariants.{Host, Router}
 use Rattle.clnp_plan.specs.declared.config.Settings.{Settings}
-use Rattle.scenario_plan.specs.Plan.{Subnetwork, AreOnDifferent, IsOn}
+use Rattle.clnp_plan.specs.ScenarioPlan.Plan.{Subnetwork, AreOnDifferent, IsOn}
 use Rattle.scenario.specs.Words.{◌>>=◌, wanted, found, is_name, name_word, declared_word, number_within, number_word, number_behind, has_prefix, address_word, prefix_word, is_digits, is_taken, is_one_at_most, each_once, two_words, three_words, five_words, first_two, first_four}
 use Rattle.scenario.specs.Declarations.{Declarations, DeclaredSystem, NumberedPort, nothing_declared, subnet_names, system_names, with_address, with_port, most_addresses, most_ports, takes_address, takes_port, count_below, has_port, snpas_on, mtu_at, limits_of, limits_words, limits_line, subnet_line, checksum_word, room_word, setting_word, setting_words, key_of, with_setting, settings_of, role_word, system_line, address_line, transit_word, port_line, is_router, is_router_at, router_word, has_number, has_numbered, port_word, has_route, takes_route, with_route, route_line, declaration_line, is_complete, has_limits, all_declared, have_no_gap, configuration_of}
-use Rattle.scenario_plan.specs.Standing.{changed_at, is_among}
+use Rattle.clnp_plan.specs.ScenarioPlan.Standing.{changed_at, is_among}
 use Rattle.scenario.specs.Grammar.{ReadTo, is_line_of, declarations_from}
 use Rattle.scenario.specs.declared.code.Code.{Code}
 use Rattle.scenario.specs.declared.code.Code.TheVariants as bad

@@ -7,7 +7,7 @@ use Rattle.std.proofs.lemmas.List.{length-map}
 use Rattle.std.proofs.lemmas.Result.{IfOk-at_ok}
 use Rattle.clnp_plan.specs.ClnpBase.Text.{lines_of, words_of, is_skipped}
 use Rattle.clnp_plan.specs.Configuration.{SystemConfiguration}
-use Rattle.scenario_plan.specs.Plan.{IsForBoard, IsLive, Plan}
+use Rattle.clnp_plan.specs.ScenarioPlan.Plan.{IsForBoard, IsLive, Plan}
 use Rattle.scenario.specs.Words.{◌>>=◌, wanted}
 use Rattle.scenario.specs.Declarations.{Declarations, DeclaredSystem, NumberedPort, nothing_declared, limits_of, fits_board, configuration_of}
 use Rattle.scenario.specs.Events.{Scene, first_scene, scene_after, is_live_line, counted, nothing_counted}
@@ -16,7 +16,7 @@ use Rattle.scenario.specs.Refusal.{Refuses}
 use Rattle.scenario.specs.declared.code.Code.{Code}
 use Rattle.scenario.specs.declared.code.Code.TheVariants as bad
 use Rattle.scenario.specs.declared.counts.Counts.{Counts}
-use Rattle.scenario_plan.specs.declared.event.Event.{Event}
+use Rattle.clnp_plan.specs.declared.scenario_plan.event.Event.{Event}
 use Rattle.scenario.specs.declared.fault.ScenarioRefusal.{ScenarioRefusal}
 use Rattle.scenario.proofs.Behind.{behind_result, behind_wanted, behind_such, behind_line_such, either_way, if_wanted}
 use Rattle.scenario.proofs.LiveLines.{IsSaidLive, counted_said_live}

@@ -1,10 +1,10 @@
 -- What holds of each event of a frame from outside holds of the one that a line gives.
 use Rattle.std.proofs.Common.{ℕ, List, nat_le, length, IfOk}
-use Rattle.clnp_plan.specs.Nsap.declared.target.Target.{Target}
+use Rattle.clnp_plan.specs.Pdus.declared.nsap.target.Target.{Target}
 use Rattle.scenario.specs.Words.{declared_word, address_word, four_words, frame_word, target_word}
 use Rattle.scenario.specs.Events.{inject_line}
-use Rattle.scenario_plan.specs.declared.event.Event.{Event}
-use Rattle.scenario_plan.specs.declared.event.Event.TheVariants.{Inject}
+use Rattle.clnp_plan.specs.declared.scenario_plan.event.Event.{Event}
+use Rattle.clnp_plan.specs.declared.scenario_plan.event.Event.TheVariants.{Inject}
 use Rattle.scenario.proofs.Behind.{behind_result, behind_found, behind_wanted}
 
 pub inject_such : (subnets words : List (List ℕ)) (P : Event → Type 0) → ((subnet : ℕ) (from : List ℕ) (to : Target) (octets : List ℕ) → P (Inject subnet from to octets))

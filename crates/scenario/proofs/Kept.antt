@@ -12,10 +12,10 @@ use Rattle.clnp_plan.proofs.ClnpBase.Lists.{AllByRecursion-implies, AllByRecursi
 use Rattle.clnp_plan.proofs.ClnpBase.Maps.{filter-map, map-map}
 use Rattle.clnp_plan.specs.Configuration.{SystemConfiguration}
 use Rattle.clnp_plan.specs.declared.config.PortConfig.{PortConfig}
-use Rattle.scenario_plan.specs.Plan.{Subnetwork, AreOnDifferent, IsOn, snpas_of}
+use Rattle.clnp_plan.specs.ScenarioPlan.Plan.{Subnetwork, AreOnDifferent, IsOn, snpas_of}
 use Rattle.scenario.specs.Words.{is_taken}
 use Rattle.scenario.specs.Declarations.{DeclaredSystem, NumberedPort, mtu_at, snpas_on, count_below, with_port, configuration_of}
-use Rattle.scenario_plan.specs.Standing.{changed_at}
+use Rattle.clnp_plan.specs.ScenarioPlan.Standing.{changed_at}
 use Rattle.scenario.proofs.Apart.{IsNew, AreApart, distinct_of, put}
 
 pub map_leaves : {X A : Type 0} (f : X → A) (change : X → X) → ((x : X) → f (change x) ≡ f x) → (place : ℕ) (xs : List X)

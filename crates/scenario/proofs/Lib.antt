@@ -27,3 +27,4 @@ pub mod Alone
 pub mod LiveLines
 pub mod ForRun
 mod Worked
+pub mod ScenarioWriting

@@ -8,7 +8,7 @@ use Rattle.clnp_plan.proofs.ClnpBase.Maps.{list_any-map-filter}
 use Rattle.scenario.specs.declared.fault.LineFault.{LineFault}
 use Rattle.scenario.specs.declared.fault.LineFault.TheVariants.{NoMemory}
 use Rattle.scenario.specs.Declarations.{snpas_on, DeclaredSystem, NumberedPort, configuration_of}
-use Rattle.scenario_plan.specs.Standing.{changed_at, is_among}
+use Rattle.clnp_plan.specs.ScenarioPlan.Standing.{changed_at, is_among}
 
 pub configuration_names : (systems : List DeclaredSystem) → map (λ host. host.name) (map configuration_of systems) ≡ map (λ system. system.name) systems
 configuration_names [] = refl

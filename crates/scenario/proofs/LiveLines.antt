@@ -6,16 +6,16 @@ use Rattle.std.proofs.lemmas.Bool.{cases_Bool, or_parts, true≢false}
 use Rattle.clnp_plan.proofs.ClnpBase.SameOctets.{same_from}
 use Rattle.clnp_plan.specs.Configuration.{SystemConfiguration}
 use Rattle.clnp_plan.specs.declared.ask.Ask.{Ask}
-use Rattle.scenario_plan.specs.Plan.{IsLive}
+use Rattle.clnp_plan.specs.ScenarioPlan.Plan.{IsLive}
 use Rattle.scenario.specs.Words.{declared_word, address_word, data_word, number_word, one_word, two_words, four_words, first_four, is_one_at_most, each_once}
 use Rattle.scenario.specs.Events.{wish_words, wish_key, own_life, ask_of, host_word, router_word, on_word, send_line, deliver_line, count_line, tick_line, ticks_line, restart_line, echo_line, congest_line, change_line, Scene, event_line, is_live_line, counted, are_few}
 use Rattle.scenario.specs.Grammar.{counted_event}
 use Rattle.scenario.specs.declared.code.Code.{Code}
 use Rattle.scenario.specs.declared.code.Code.TheVariants as bad
 use Rattle.scenario.specs.declared.counts.Counts.{Counts}
-use Rattle.scenario_plan.specs.declared.event.Body.{Body}
-use Rattle.scenario_plan.specs.declared.event.Event.{Event}
-use Rattle.scenario_plan.specs.declared.event.Event.TheVariants.{Send, Deliver, Settle, Lose, Tick, Restart, Echo, Congest}
+use Rattle.clnp_plan.specs.declared.scenario_plan.event.Body.{Body}
+use Rattle.clnp_plan.specs.declared.scenario_plan.event.Event.{Event}
+use Rattle.clnp_plan.specs.declared.scenario_plan.event.Event.TheVariants.{Send, Deliver, Settle, Lose, Tick, Restart, Echo, Congest}
 use Rattle.scenario.proofs.Changed.{later_of, tick_system_such, mtu_such, route_such, unroute_such, port_such}
 use Rattle.scenario.proofs.Injected.{inject_such}
 use Rattle.scenario.proofs.Behind.{behind_result, behind_found, behind_wanted, behind_such}

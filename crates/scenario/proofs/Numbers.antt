@@ -7,7 +7,7 @@ use Rattle.std.proofs.lemmas.List.Folds.{list_any-append}
 use Rattle.std.proofs.lemmas.List.FromFn.{get_or-range_with_len, length-range_with_len}
 use Rattle.std.proofs.lemmas.List.Sums.{AllPass-from_list_all}
 use Rattle.clnp_plan.proofs.ClnpBase.Lists.{AllByRecursion-implies}
-use Rattle.clnp_plan.specs.Forwarding.declared.route.Route.{Route}
+use Rattle.clnp_plan.specs.SystemTables.declared.forwarding.route.Route.{Route}
 use Rattle.scenario.specs.Declarations.{NumberedPort, has_number, have_no_gap}
 
 -- a number that is there stays there where a port comes in

@@ -9,10 +9,10 @@ use Rattle.hex.proofs.HexLemmas.{decode_of-ok}
 use Rattle.clnp_plan.specs.Nsap.Address.{IsAddress}
 use Rattle.clnp_plan.specs.ClnpBase.Text.{words_of, onto_first, ends_word}
 use Rattle.clnp_plan.specs.Configuration.{SystemConfiguration}
-use Rattle.scenario_plan.specs.Plan.{InjectsInForm, IsTarget}
+use Rattle.clnp_plan.specs.ScenarioPlan.Plan.{InjectsInForm, IsTarget}
 use Rattle.scenario.specs.Words.{declared_word, digits_read, address_word, data_word, number_word, one_word, two_words, four_words, first_four, each_once, frame_word, target_word}
 use Rattle.scenario.specs.Events.{wish_words, wish_key, host_word, router_word, on_word, send_line, deliver_line, count_line, restart_line, echo_line, congest_line, inject_line, Scene, event_line}
-use Rattle.scenario_plan.specs.declared.event.Event.TheVariants.{Settle, Lose}
+use Rattle.clnp_plan.specs.declared.scenario_plan.event.Event.TheVariants.{Settle, Lose}
 use Rattle.scenario.proofs.Behind.{behind_result, behind_found, behind_wanted, behind_such, either_way, declared_is_within}
 use Rattle.scenario.proofs.Forms.{Laws, address_formed}
 use Rattle.scenario.proofs.Changed.{change_such, ticks_such}

@@ -2,12 +2,12 @@
 use Rattle.std.proofs.Common.{ℕ, ◌<◌, List, [], ◌∷◌, length, slice_get, codes, Ok, IfOk}
 use Rattle.std.specs.Str.{bytes_eq}
 use Rattle.clnp_plan.specs.Configuration.{SystemConfiguration}
-use Rattle.scenario_plan.specs.Plan.{IsPlaced}
+use Rattle.clnp_plan.specs.ScenarioPlan.Plan.{IsPlaced}
 use Rattle.scenario.specs.Words.{declared_word, address_word, data_word, number_word, one_word, two_words, four_words, first_four, each_once}
 use Rattle.scenario.specs.Events.{wish_words, wish_key, is_host_at, host_word, is_router_at, router_word, on_word, send_line, deliver_line, count_line, restart_line, echo_line, congest_line, Scene, event_line}
 use Rattle.scenario.specs.declared.code.Code.TheVariants as bad
-use Rattle.scenario_plan.specs.declared.event.Event.{Event}
-use Rattle.scenario_plan.specs.declared.event.Event.TheVariants.{Settle, Lose}
+use Rattle.clnp_plan.specs.declared.scenario_plan.event.Event.{Event}
+use Rattle.clnp_plan.specs.declared.scenario_plan.event.Event.TheVariants.{Settle, Lose}
 use Rattle.scenario.proofs.Behind.{behind_result, behind_found, behind_wanted, behind_such, either_way, declared_is_within}
 use Rattle.scenario.proofs.Injected.{inject_such}
 use Rattle.scenario.proofs.Changed.{change_such, ticks_such}

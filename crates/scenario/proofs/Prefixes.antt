@@ -4,8 +4,8 @@ use Rattle.std.proofs.lemmas.Bool.{leb-true}
 use Rattle.std.proofs.lemmas.List.{length-map}
 use Rattle.clnp_plan.specs.Nsap.Prefix.{IsPrefix, digit_value, is_star, prefix_of, prefix_or_fault}
 use Rattle.clnp_plan.specs.Nsap.Text.{bad_digit, without_dots}
-use Rattle.clnp_plan.specs.Nsap.declared.fault.NsapFault.{NsapFault}
-use Rattle.clnp_plan.specs.Nsap.declared.fault.NsapFault.TheVariants.{TooManyDigits}
+use Rattle.clnp_plan.specs.Pdus.declared.nsap.fault.NsapFault.{NsapFault}
+use Rattle.clnp_plan.specs.Pdus.declared.nsap.fault.NsapFault.TheVariants.{TooManyDigits}
 use Rattle.scenario.specs.Words.{address_read, prefix_word}
 use Rattle.scenario.proofs.Behind.{either_way}
 use Rattle.clnp_plan.proofs.Nsap.Digits.{values_small}

@@ -8,15 +8,15 @@ use Rattle.clnp_plan.specs.ClnpBase.Text.{words_of, is_skipped}
 use Rattle.clnp_plan.specs.Configuration.{SystemConfiguration}
 use Rattle.clnp_plan.specs.declared.config.Role.{Role}
 use Rattle.clnp_plan.specs.declared.config.Role.TheVariants.{Host, Router}
-use Rattle.scenario_plan.specs.Plan.{IsFromHost, IsOfRouter, IsRouterAt}
+use Rattle.clnp_plan.specs.ScenarioPlan.Plan.{IsFromHost, IsOfRouter, IsRouterAt}
 use Rattle.scenario.specs.Words.{declared_word, address_word, data_word, number_word, one_word, two_words, four_words, first_four, each_once}
 use Rattle.scenario.specs.Declarations.{is_router}
 use Rattle.scenario.specs.Events.{wish_words, wish_key, is_host, is_host_at, host_word, is_router_at, router_word, on_word, send_line, deliver_line, count_line, restart_line, echo_line, congest_line, Scene, scene_after, event_line, counted, are_few}
 use Rattle.scenario.specs.Grammar.{is_line_of, nothing_after, counted_event, events_from}
 use Rattle.scenario.specs.declared.code.Code.TheVariants as bad
 use Rattle.scenario.specs.declared.counts.Counts.{Counts}
-use Rattle.scenario_plan.specs.declared.event.Event.{Event}
-use Rattle.scenario_plan.specs.declared.event.Event.TheVariants.{Settle, Lose}
+use Rattle.clnp_plan.specs.declared.scenario_plan.event.Event.{Event}
+use Rattle.clnp_plan.specs.declared.scenario_plan.event.Event.TheVariants.{Settle, Lose}
 use Rattle.scenario.proofs.Injected.{inject_such}
 use Rattle.scenario.proofs.Changed.{change_such, ticks_such}
 use Rattle.scenario.proofs.Behind.{behind_result, behind_found, behind_wanted, behind_such, behind_line_such, either_way}

@@ -8,12 +8,12 @@ use Rattle.hex.specs.Hex.{IsBytes}
 use Rattle.clnp_plan.specs.ClnpOptions.Parameter.{parameters_after, spelled}
 use Rattle.clnp_plan.specs.ClnpOptions.Rules.{refusal, form_refusal, list_refusal, place_of_repeat, place_of}
 use Rattle.clnp_plan.specs.Configuration.{IsSystem, IsWithin, SystemConfiguration}
-use Rattle.scenario_plan.specs.Plan.{IsSaid, IsSaidBody, AreSaidOptions}
+use Rattle.clnp_plan.specs.ScenarioPlan.Plan.{IsSaid, IsSaidBody, AreSaidOptions}
 use Rattle.scenario.specs.Words.{literal, has_prefix, after_prefix, pattern_word, two_fields, declared_word, address_word, data_word, number_word, life_word, octets_behind, options_read, options_word, one_word, two_words, four_words, first_four, each_once}
 use Rattle.scenario.specs.Events.{wish_word, wish_words, wish_key, life_in, own_life, options_in, host_word, send_line, deliver_line, count_line, tick_line, restart_line, echo_line, router_word, on_word, congest_line, Scene, event_line}
 use Rattle.scenario.specs.declared.code.Code.TheVariants as bad
-use Rattle.scenario_plan.specs.declared.event.Body.TheVariants.{Hex}
-use Rattle.scenario_plan.specs.declared.event.Event.TheVariants.{Settle, Lose}
+use Rattle.clnp_plan.specs.declared.scenario_plan.event.Body.TheVariants.{Hex}
+use Rattle.clnp_plan.specs.declared.scenario_plan.event.Event.TheVariants.{Settle, Lose}
 use Rattle.scenario.specs.declared.wish.Wish.{Wish}
 use Rattle.scenario.specs.declared.wish.Wish.TheVariants.{Lasting, NoReport, Whole, Options}
 use Rattle.scenario.proofs.Forms.{behind_octets}

@@ -9,7 +9,7 @@ use Rattle.scenario.specs.Grammar.{BadLine, ReadTo, at_line, newest_version, ver
 use Rattle.scenario.specs.Declarations.{nothing_declared, limits_of, configuration_of}
 use Rattle.scenario.specs.Events.{first_scene, nothing_counted}
 use Rattle.scenario.specs.Versions.{IsReadAlike}
-use Rattle.scenario_plan.specs.Plan.{Plan}
+use Rattle.clnp_plan.specs.ScenarioPlan.Plan.{Plan}
 use Rattle.scenario.specs.Words.{◌>>=◌, found}
 use Rattle.scenario.specs.declared.code.Code.TheVariants as bad
 use Rattle.scenario.proofs.Behind.{behind_result}

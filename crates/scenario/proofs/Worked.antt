@@ -6,7 +6,7 @@ use Rattle.clnp_plan.specs.Nsap.Text.{octets_of}
 use Rattle.scenario.specs.Grammar.{plan_of, plan_at, events_from, counted_event}
 use Rattle.scenario.specs.Declarations.{limits_line, subnet_line, room_word, setting_word, system_line, address_line, port_line, route_line, declaration_line}
 use Rattle.scenario.specs.Events.{wish_word, send_line, deliver_line, tick_line, tick_system_line, ticks_line, restart_line, count_line, event_line}
-use Rattle.scenario_plan.proofs.WorkedPlans.{host_plan, router_plan}
+use Rattle.clnp_plan.proofs.ScenarioPlan.WorkedPlans.{host_plan, router_plan}
 
 host_is_read : plan_of (codes "clnp-sim 1\nsubnet lan 1500\nsystem a host hello=0\naddress a 47002702\nport a 0 lan 01\nevents\nsend a 47002702 47002701 hex:6869\ntick 320\nsend a 47002702 47002701 hex:6869\nend\n") ≡ Ok host_plan
 unfolding decode_pairs octets_of digits plan_at events_from counted_event limits_line subnet_line room_word setting_word system_line address_line port_line declaration_line wish_word send_line deliver_line tick_line tick_system_line ticks_line restart_line count_line event_line

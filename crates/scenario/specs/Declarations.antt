@@ -10,9 +10,9 @@ use Rattle.clnp_plan.specs.declared.config.Settings.{Settings}
 use Rattle.clnp_plan.specs.declared.config.Role.{Role}
 use Rattle.clnp_plan.specs.declared.config.Role.TheVariants.{Host, Router}
 use Rattle.clnp_plan.specs.Forwarding.Distinct as prefixes
-use Rattle.clnp_plan.specs.Forwarding.declared.route.Route.{Route}
-use Rattle.scenario_plan.specs.Plan.{Subnetwork}
-use Rattle.scenario_plan.specs.Standing.{changed_at, is_among}
+use Rattle.clnp_plan.specs.SystemTables.declared.forwarding.route.Route.{Route}
+use Rattle.clnp_plan.specs.ScenarioPlan.Plan.{Subnetwork}
+use Rattle.clnp_plan.specs.ScenarioPlan.Standing.{changed_at, is_among}
 use Rattle.scenario.specs.Words.{◌>>=◌, wanted, found, name_word, declared_word, number_within, number_word, number_behind, is_digits, address_word, prefix_word, life_word, has_prefix, two_words, three_words, four_words, five_words, first_two, first_four, is_one_at_most, is_taken, each_once}
 use Rattle.scenario.specs.declared.code.Code.{Code}
 use Rattle.scenario.specs.declared.code.Code.TheVariants as bad

@@ -8,15 +8,15 @@ use Rattle.clnp_plan.specs.declared.ask.Ask.{Ask}
 use Rattle.clnp_plan.specs.declared.config.Role.{Role}
 use Rattle.clnp_plan.specs.declared.config.Role.TheVariants.{Host, Router}
 use Rattle.scenario.specs.Declarations.{is_router}
-use Rattle.scenario_plan.specs.Plan.{Subnetwork, passed_by, ticks_of}
-use Rattle.scenario_plan.specs.Standing.{Standing, is_second, is_rival, runs_ahead, takes_prefix, standing_of, standing_after}
+use Rattle.clnp_plan.specs.ScenarioPlan.Plan.{Subnetwork, passed_by, ticks_of}
+use Rattle.clnp_plan.specs.ScenarioPlan.Standing.{Standing, is_second, is_rival, runs_ahead, takes_prefix, standing_of, standing_after}
 use Rattle.scenario.specs.Words.{◌>>=◌, wanted, found, literal, declared_word, number_within, number_word, is_digits, address_word, prefix_word, data_word, life_word, options_word, target_word, frame_word, has_prefix, one_word, two_words, four_words, five_words, first_four, is_one_at_most, each_once}
 use Rattle.scenario.specs.declared.code.Code.{Code}
 use Rattle.scenario.specs.declared.code.Code.TheVariants as bad
 use Rattle.scenario.specs.declared.counts.Counts.{Counts}
-use Rattle.scenario_plan.specs.declared.event.Event.{Event}
-use Rattle.scenario_plan.specs.declared.event.Event.TheVariants as event
-use Rattle.scenario_plan.specs.declared.event.Event.TheVariants.{Send, Deliver, Settle, Lose, Tick, Restart, Echo, Congest, Inject}
+use Rattle.clnp_plan.specs.declared.scenario_plan.event.Event.{Event}
+use Rattle.clnp_plan.specs.declared.scenario_plan.event.Event.TheVariants as event
+use Rattle.clnp_plan.specs.declared.scenario_plan.event.Event.TheVariants.{Send, Deliver, Settle, Lose, Tick, Restart, Echo, Congest, Inject}
 use Rattle.scenario.specs.declared.wish.Wish.{Wish}
 use Rattle.scenario.specs.declared.wish.Wish.TheVariants.{Lasting, NoReport, Whole, Options}
 

@@ -3,12 +3,12 @@ use Rattle.std.specs.Prelude.{ℕ, ◌+◌, ◌-◌, ◌&&◌, nat_le, Bool, fal
 use Rattle.std.specs.Str.{bytes_eq}
 use Rattle.clnp_plan.specs.ClnpBase.Text.{lines_of, words_of, is_skipped}
 use Rattle.scenario.specs.Codes.{number_of}
-use Rattle.scenario_plan.specs.Plan.{Plan}
+use Rattle.clnp_plan.specs.ScenarioPlan.Plan.{Plan}
 use Rattle.scenario.specs.Words.{◌>>=◌, wanted, found, one_word}
 use Rattle.scenario.specs.Declarations.{Declarations, nothing_declared, declaration_line, limits_of, all_declared, fits_board, configuration_of}
 use Rattle.scenario.specs.Events.{Scene, first_scene, scene_after, event_line, is_live_line, counted, are_few, nothing_counted}
 use Rattle.scenario.specs.declared.counts.Counts.{Counts}
-use Rattle.scenario_plan.specs.declared.event.Event.{Event}
+use Rattle.clnp_plan.specs.declared.scenario_plan.event.Event.{Event}
 use Rattle.scenario.specs.declared.code.Code.{Code}
 use Rattle.scenario.specs.declared.code.Code.TheVariants as bad
 

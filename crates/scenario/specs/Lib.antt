@@ -1,9 +1,10 @@
 pub use Rattle.clnp_plan.specs.ClnpBase
-pub use Rattle.clnp_plan.specs.Nsap
+pub use Rattle.clnp_plan.specs.Pdus
 pub use Rattle.clnp_plan.specs.ClnpOptions
+pub use Rattle.clnp_plan.specs.Nsap
 pub use Rattle.clnp_plan.specs.PduHeader
 pub use Rattle.clnp_plan.specs as ClnpPlan
-pub use Rattle.scenario_plan.specs as ScenarioPlan
+pub use Rattle.clnp_plan.specs.ScenarioPlan
 pub mod Codes
 pub mod Grammar
 pub mod Refusal
@@ -11,3 +12,4 @@ pub mod Declarations
 pub mod Events
 pub mod Words
 pub mod Versions
+pub mod ScenarioWriting

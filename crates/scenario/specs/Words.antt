@@ -7,15 +7,15 @@ use Rattle.hex.specs.declared.error.FromHexError.{FromHexError}
 use Rattle.clnp_plan.specs.ClnpBase.Text.{decimal_of, is_digit}
 use Rattle.clnp_plan.specs.ClnpOptions.Rules.{refusal}
 use Rattle.clnp_plan.specs.Nsap.Prefix.{prefix_of}
-use Rattle.clnp_plan.specs.Nsap.declared.target.Target.{Target}
-use Rattle.clnp_plan.specs.Nsap.declared.target.Target.TheVariants.{System, EndSystems, Routers}
+use Rattle.clnp_plan.specs.Pdus.declared.nsap.target.Target.{Target}
+use Rattle.clnp_plan.specs.Pdus.declared.nsap.target.Target.TheVariants.{System, EndSystems, Routers}
 use Rattle.clnp_plan.specs.Nsap.Text.{octets_of}
-use Rattle.clnp_plan.specs.Nsap.declared.fault.NsapFault.{NsapFault}
-pub use Rattle.scenario_plan.specs.Names.{is_letter, is_letter_or_digit, begins_with_letter, is_name}
+use Rattle.clnp_plan.specs.Pdus.declared.nsap.fault.NsapFault.{NsapFault}
+pub use Rattle.clnp_plan.specs.ScenarioPlan.Names.{is_letter, is_letter_or_digit, begins_with_letter, is_name}
 use Rattle.scenario.specs.declared.code.Code.{Code}
 use Rattle.scenario.specs.declared.code.Code.TheVariants as bad
-use Rattle.scenario_plan.specs.declared.event.Body.{Body}
-use Rattle.scenario_plan.specs.declared.event.Body.TheVariants.{Hex, Pattern}
+use Rattle.clnp_plan.specs.declared.scenario_plan.event.Body.{Body}
+use Rattle.clnp_plan.specs.declared.scenario_plan.event.Body.TheVariants.{Hex, Pattern}
 
 infixl 10 ◌>>=◌
 abbrev pub ◌>>=◌ : {A B E : Type 0} → Result A E → (A → Result B E) → Result B E

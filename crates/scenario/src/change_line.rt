@@ -2,7 +2,7 @@
 ghost use Rattle.std.specs.Prelude.{◌≡◌, ◌≤◌, map, length, slice_get};
 ghost use Rattle.clnp_plan.specs.ClnpBase.Text.{words_of};
 ghost use Rattle.scenario.specs.Events.{change_line, has_number, mtu_line, port_line, port_word, route_line, scene_of, tick_system_line, unroute_line};
-ghost use Rattle.scenario_plan.specs.Plan.{Subnetwork};
+ghost use Rattle.clnp_plan.specs.ScenarioPlan.Plan.{Subnetwork};
 
 use crate::code::Code;
 use crate::event_line::{router_word, subnet_word, system_word};
@@ -14,7 +14,7 @@ use crate::word::{
 use clnp_plan::SystemConfig;
 use clnp_plan::base::same;
 use clnp_plan::routing::Route;
-use scenario_plan::{Event, Subnet};
+use clnp_plan::scenario_plan::{Event, Subnet};
 
 /// What is settled before the first event: the version of the text, the subnetworks and the systems.
 #[derive(Clone, Copy)]

@@ -1,9 +1,9 @@
 //! How many events came, and what they do together.
 ghost use Rattle.std.specs.Prelude.{◌≡◌, true};
 ghost use Rattle.scenario.specs.Events.{counted, are_few, nothing_counted};
-ghost use Rattle.scenario_plan.specs.Plan.{passed_by, ticks_of};
+ghost use Rattle.clnp_plan.specs.ScenarioPlan.Plan.{passed_by, ticks_of};
 
-use scenario_plan::Event;
+use clnp_plan::scenario_plan::Event;
 
 /// The events so far, the copies that they settle and lose, and the ticks that they let pass.
 #[derive(Clone, Copy)]

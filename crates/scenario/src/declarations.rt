@@ -5,7 +5,7 @@ ghost use Rattle.std.specs.List.{position, list_any, list_all, flat_map};
 ghost use Rattle.std.specs.Str.{bytes_eq};
 ghost use Rattle.clnp_plan.specs.ClnpBase.Text.{words_of};
 ghost use Rattle.scenario.specs.Declarations.{nothing_declared, subnet_names, system_names, has_port, snpas_on, takes_address, takes_port, mtu_at, with_address, with_port, is_router_at, router_word, has_numbered, port_word, has_route, takes_route, with_route, settings_of, limits_words, limits_line, limits_of, subnet_line, system_line, address_line, transit_word, port_line, route_line, declaration_line, has_limits, is_complete, fits_board};
-ghost use Rattle.scenario_plan.specs.Standing.{changed_at, is_among};
+ghost use Rattle.clnp_plan.specs.ScenarioPlan.Standing.{changed_at, is_among};
 ghost use Rattle.scenario.specs.Words.{declared_word};
 ghost use Rattle.scenario.specs.Refusal.{Faults};
 
@@ -21,8 +21,8 @@ use crate::word::{
 use clnp_plan::base::{next_word, same};
 use clnp_plan::nsaps::{Address, Prefix, Snpa};
 use clnp_plan::routing::Route;
+use clnp_plan::scenario_plan::Subnet;
 use clnp_plan::{Limits, PortConfig, Role, Settings};
-use scenario_plan::Subnet;
 use std::alloc::Global;
 use std::marker::Model;
 

@@ -4,7 +4,7 @@ ghost use Rattle.std.specs.List.{position};
 ghost use Rattle.std.specs.Str.{bytes_eq};
 ghost use Rattle.clnp_plan.specs.ClnpBase.Text.{words_of};
 ghost use Rattle.scenario.specs.Events.{own_life, is_host, is_host_at, host_word, send_line, deliver_line, count_line, tick_line, ticks_line, restart_line, echo_line, is_router_at, router_word, on_word, congest_line, inject_line, scene_of, event_line, is_live_line};
-ghost use Rattle.scenario_plan.specs.Plan.{Subnetwork};
+ghost use Rattle.clnp_plan.specs.ScenarioPlan.Plan.{Subnetwork};
 ghost use Rattle.scenario.specs.Words.{declared_word};
 ghost use Rattle.scenario.specs.Refusal.{Faults};
 
@@ -19,8 +19,8 @@ use crate::word::{
     number_word, one_word, snpa_word, target_word, two_words, wanted,
 };
 use clnp_plan::base::{next_word, same};
+use clnp_plan::scenario_plan::{Event, KeptAsk, Subnet};
 use clnp_plan::{Role, SystemConfig};
-use scenario_plan::{Event, KeptAsk, Subnet};
 use std::alloc::Global;
 
 /// The place of the first system of this name.

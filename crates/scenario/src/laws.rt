@@ -5,7 +5,7 @@ ghost use Rattle.std.specs.Prelude.{◌≡◌, ◌↔◌, ℕ, List, Option, Ok}
 ghost use Rattle.clnp_plan.specs.ClnpBase.Text.{lines_of};
 ghost use Rattle.scenario.specs.Grammar.{header_from, newest_version, plan_at, plan_of, plan_of_version_1, run_plan_of};
 ghost use Rattle.scenario.specs.Versions.{IsReadAlike};
-ghost use Rattle.scenario_plan.specs.Plan.{IsFit, IsForBoard, Plan};
+ghost use Rattle.clnp_plan.specs.ScenarioPlan.Plan.{IsFit, IsForBoard, Plan};
 
 /// What the grammar accepts is fit to be run: its version, limits, settings and numbers are in their ranges, in version
 /// 1 its clocks tick together, each name is a name of the grammar, each system has the addresses, ports and routes that

@@ -9,16 +9,17 @@ mod event_line;
 mod fault;
 pub mod laws;
 mod reader;
+pub mod scenario_writing;
 mod setting;
 mod standing;
 mod system;
 mod wish;
 pub mod word;
 
+pub use clnp_plan::scenario_plan::{Body, Event, KeptAsk, Move, Scenario, Subnet};
 pub use code::Code;
 pub use fault::{LineFault, ScenarioRefusal};
 pub use reader::{read, read_for_run, read_version_1};
-pub use scenario_plan::{Body, Event, KeptAsk, Move, Scenario, Subnet};
 
 /// What words say of a system and of a unit, and what events do together.
 pub mod kinds {
@@ -29,7 +30,7 @@ pub mod kinds {
 
 /// What a scenario says.
 pub mod plans {
-    pub use scenario_plan::laws;
+    pub use clnp_plan::scenario_plan::laws;
 }
 
 /// What a scenario says of a system, and the words and lines of which texts are made.

@@ -9,7 +9,7 @@ ghost use Rattle.scenario.specs.Grammar.{at_line, version_of, header_from, decla
 ghost use Rattle.scenario.specs.Codes.{number_of};
 ghost use Rattle.scenario.specs.declared.fault.ScenarioRefusal.TheVariants.{BadLine};
 ghost use Rattle.scenario.specs.Refusal.{Refuses};
-ghost use Rattle.scenario_plan.specs.Plan.{IsForBoard};
+ghost use Rattle.clnp_plan.specs.ScenarioPlan.Plan.{IsForBoard};
 
 use crate::change_line::Settled;
 use crate::code::Code;
@@ -23,7 +23,7 @@ use crate::system::System;
 use crate::word::is_line_of;
 use clnp_plan::SystemConfig;
 use clnp_plan::base::{is_skipped, next_line, same};
-use scenario_plan::{Event, Scenario, Subnet};
+use clnp_plan::scenario_plan::{Event, Scenario, Subnet};
 use std::alloc::{AllocError, Global};
 
 /// A line that breaks the grammar, by its number and the code's.

@@ -2,13 +2,13 @@
 //! how far clocks went on.
 ghost use Rattle.std.specs.Prelude.{◌≡◌, ◌≤◌, ◌<◌, ◌+◌, ◌^◌, ◌++◌, ◌&&◌, ◌||◌, nat_lt, map, length, slice_get, IfOk, OnOk};
 ghost use Rattle.std.specs.List.{AllByRecursion, list_any};
-ghost use Rattle.scenario_plan.specs.Plan.{ticks_of};
-ghost use Rattle.scenario_plan.specs.Standing.{changed_at, first_clocks, is_ahead, is_among, is_port, is_rival, is_second, moved, prefixes_of, runs_ahead, spots_from, spots_of, standing_after, standing_of, takes_prefix, with_prefix, without_prefix};
+ghost use Rattle.clnp_plan.specs.ScenarioPlan.Plan.{ticks_of};
+ghost use Rattle.clnp_plan.specs.ScenarioPlan.Standing.{changed_at, first_clocks, is_ahead, is_among, is_port, is_rival, is_second, moved, prefixes_of, runs_ahead, spots_from, spots_of, standing_after, standing_of, takes_prefix, with_prefix, without_prefix};
 
 use clnp_plan::nsaps::{Prefix, Snpa};
 use clnp_plan::routing::Route;
+use clnp_plan::scenario_plan::{Event, Spot};
 use clnp_plan::{PortConfig, SystemConfig};
-use scenario_plan::{Event, Spot};
 use std::alloc::{AllocError, Global};
 use std::marker::Model;
 
@@ -230,7 +230,7 @@ pub(crate) struct Standing {
 }
 
 impl Model for Standing {
-    ghost use Rattle.scenario_plan.specs.Standing.{Standing};
+    ghost use Rattle.clnp_plan.specs.ScenarioPlan.Standing.{Standing};
 
     ghost Value = { Standing };
 

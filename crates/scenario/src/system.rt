@@ -5,7 +5,7 @@ ghost use Rattle.std.specs.Cmp.Lexicographic.{pointwise};
 ghost use Rattle.clnp_plan.specs.Configuration.{IsSystem};
 ghost use Rattle.clnp_plan.specs.Forwarding.Distinct as prefixes;
 ghost use Rattle.scenario.specs.Declarations.{role_word, most_addresses, most_ports, is_router, takes_address, takes_port, takes_route, count_below, with_address, with_port, with_route, has_number, have_no_gap, is_complete, configuration_of};
-ghost use Rattle.scenario_plan.specs.Standing.{is_among};
+ghost use Rattle.clnp_plan.specs.ScenarioPlan.Standing.{is_among};
 
 use crate::code::Code;
 use crate::fault::LineFault;

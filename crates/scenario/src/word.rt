@@ -12,7 +12,7 @@ use crate::fault::LineFault;
 use clnp_plan::base::{Octets, decimal, next_word, same};
 use clnp_plan::nsaps::{Address, Prefix, Snpa, Target};
 use clnp_plan::options::OptionList;
-use scenario_plan::Body;
+use clnp_plan::scenario_plan::Body;
 use std::alloc::Global;
 
 /// The word of a line that has one word.

@@ -1,7 +1,7 @@
 //! The cases, as their file tells them.
 use crate::links::CaseLink;
 use crate::selection::Selection;
-use link_board::base::{HexFault, decimal, push_unhex};
+use frame_links::link_board::base::{HexFault, decimal, push_unhex};
 use std::alloc::{AllocError, Global};
 
 /// A call of the program, and what it must come to.

@@ -1,9 +1,9 @@
 //! The links and the clock of a case.
 ghost use Rattle.std.specs.Prelude.{◌≡◌, ◌<◌, ◌^◌, None};
 
-use link_board::base::{Clock, Octets, decimal, push_unhex, words};
-use link_board::nsaps::Snpa;
-use link_board::{MemFrame, MemLink};
+use frame_links::link_board::base::{Clock, Octets, decimal, push_unhex, words};
+use frame_links::link_board::nsaps::Snpa;
+use frame_links::link_board::{MemFrame, MemLink};
 use std::alloc::{AllocError, Global};
 
 /// How many frames, and how many octets of them together, a link has room for that are sent on it.

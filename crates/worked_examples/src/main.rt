@@ -32,7 +32,7 @@ mod selection;
 
 use crate::case::{Case, take_line};
 use crate::outcome::{Tally, judge, push_counts};
-use link_board::base::{StdSink, lines, write_all};
+use frame_links::link_board::base::{StdSink, lines, write_all};
 use std::alloc::{AllocError, Global};
 use std::process::ExitCode;
 use std::{fs, io};

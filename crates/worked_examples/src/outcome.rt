@@ -4,8 +4,8 @@ use crate::case::Case;
 use crate::links::{CaseClock, numbers};
 use crate::selection::{Selection, selected};
 use clnp_program::run;
-use link_board::base::{MemSink, MemSource, NoMemory, words};
-use link_board::{Board, Link, MemLink};
+use frame_links::link_board::base::{MemSink, MemSource, NoMemory, words};
+use frame_links::link_board::{Board, Link, MemLink};
 use std::alloc::{AllocError, Global};
 
 /// How many octets of output and of standard error a case has room for.

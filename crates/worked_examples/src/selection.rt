@@ -1,5 +1,5 @@
 //! Which lines of an output are compared.
-use link_board::base::{decimal, lines, next_word, words};
+use frame_links::link_board::base::{decimal, lines, next_word, words};
 use std::alloc::{AllocError, Global};
 
 /// Which lines of an output are compared: where a source tells a part of the lines, the case

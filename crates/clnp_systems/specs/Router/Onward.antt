@@ -1,7 +1,7 @@
 -- What a PDU for another address comes to.
 use Rattle.std.specs.Prelude.{◌≡◌, ◌-◌, ℕ, nat_le, is_some, if◌then◌else◌, List, length, Option, None, Some, Result, Ok, Err}
 use Rattle.clnp_machine.specs.ClnpOptions.Reasons.{reason_code}
-use Rattle.clnp_machine.specs.ClnpOptions.declared.reasons.Reason.{Reason}
+use Rattle.clnp_machine.specs.Pdus.declared.clnp_options.reasons.Reason.{Reason}
 use Rattle.clnp_machine.specs.ClnpPlan.declared.config.PortConfig.{PortConfig}
 use Rattle.clnp_machine.specs.Step.{discards, forwarded, loss_at, options_behind, pieces_go_on}
 use Rattle.clnp_machine.specs.ClnpOptions.Edits.{target_of}
@@ -9,7 +9,7 @@ use Rattle.clnp_machine.specs.PduHeader.Headers.{SpellsHeader}
 use Rattle.clnp_machine.specs.PduHeader.Value.{PduValue}
 use Rattle.clnp_machine.specs.System.{Effect, SystemState}
 use Rattle.clnp_machine.specs.Unit.{Packet, cut, value_of}
-use Rattle.clnp_machine.specs.EsisTables.declared.fact.Neighbour.{Neighbour}
+use Rattle.clnp_machine.specs.SystemTables.declared.esis_tables.fact.Neighbour.{Neighbour}
 use Rattle.clnp_systems.specs.declared.onward.Onward.{Onward}
 
 -- the lifetime that is left of one where a PDU goes on by a port, unless it ends there (ISO 8473, section 6.4)

@@ -1,7 +1,7 @@
 //! Whole units that are handed up (ISO/IEC 8473, section 6.2).
 ghost use Rattle.std.specs.Prelude.{◌≡◌, ◌<◌, ◌^◌, ◌++◌, ◌∷◌, [], List, OnOk, OnErr};
 ghost use Rattle.clnp_machine.specs.ClnpOptions.Parameter.{Parameter};
-ghost use Rattle.clnp_machine.specs.PduHeader.declared.kind.Kind.{Kind as KindOf};
+ghost use Rattle.clnp_machine.specs.Pdus.declared.pdu_header.kind.Kind.{Kind as KindOf};
 ghost use Rattle.clnp_machine.specs.Local as locally;
 ghost use Rattle.clnp_machine.specs.Reassembly.State.{TableState};
 ghost use Rattle.clnp_machine.specs.System.{SystemState};

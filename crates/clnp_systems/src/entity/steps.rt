@@ -16,7 +16,7 @@ ghost use Rattle.clnp_machine.specs.Local.{is_own};
 ghost use Rattle.clnp_machine.specs.Step.{content_comes, effect_of, moment_comes, outputs_of, responds, unheard_note, unit_hop};
 ghost use Rattle.clnp_machine.specs.System.{SystemState, SendsEsis, next_number};
 ghost use Rattle.clnp_machine.specs.Esis.{redirect};
-ghost use Rattle.clnp_machine.specs.Nsap.declared.target.Target.TheVariants.{System};
+ghost use Rattle.clnp_machine.specs.Pdus.declared.nsap.target.Target.TheVariants.{System};
 ghost use Rattle.clnp_machine.specs.Unit.{IsCarriable, Packet, DataUnit, value_of, wire};
 ghost use Rattle.clnp_machine.specs.ClnpViews.Extent.{part, whole};
 ghost use Rattle.clnp_machine.specs.Forwarding.Stands as routing;

@@ -7,7 +7,7 @@ ghost use Rattle.clnp_machine.specs.Esis.{answers_new, esis_comes, esis_heard, f
 ghost use Rattle.clnp_machine.specs.Given.{Appends};
 ghost use Rattle.clnp_machine.specs.System.{SystemState, idles};
 ghost use Rattle.clnp_machine.specs.ClnpPlan.declared.config.Role.TheVariants.{Host, Router};
-ghost use Rattle.clnp_machine.specs.EsisTables.declared.fact.TableKind.TheVariants.{Is};
+ghost use Rattle.clnp_machine.specs.SystemTables.declared.esis_tables.fact.TableKind.TheVariants.{Is};
 ghost use Rattle.clnp_systems.specs.Does.{Does, Hears, StaysInFront};
 ghost use Rattle.clnp_systems.specs.EsisStands.{Stands};
 

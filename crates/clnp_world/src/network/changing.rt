@@ -3,17 +3,17 @@
 ghost use Rattle.std.specs.Prelude.{◌≡◌, ◌<◌, IfOk, OnOk, length, slice_set, vec_len};
 ghost use Rattle.std.specs.List.{range_with_len};
 ghost use Rattle.clnp_machine.specs.ClnpPlan.Configuration.{IsWithin};
-ghost use Rattle.clnp_network.specs.LabelledNetwork as network;
+ghost use Rattle.clnp_machine.specs.ClnpNetwork.LabelledNetwork as network;
 ghost use Rattle.clnp_world.specs.Changing.{MovesPort, RemovesRoute, SetsRoute, TakesMtu};
 ghost use Rattle.clnp_world.specs.Parts.{Changes, Follows, Holds, IsRunning};
 
 use super::Network;
 use crate::lines::{Line, LineSink};
 use clnp_machine::base::{NoMemory, Octets};
+use clnp_machine::clnp_network::scenarios::Subnet;
 use clnp_machine::nsaps::{Prefix, Snpa};
 use clnp_machine::routing::Route;
 use clnp_machine::system_plan::{Note, PortConfig, Role};
-use clnp_network::scenarios::Subnet;
 use clnp_systems::System;
 use std::alloc::Global;
 

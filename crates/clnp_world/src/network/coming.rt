@@ -1,7 +1,7 @@
 //! What comes to the systems.
 ghost use Rattle.std.specs.Prelude.{◌≡◌, ◌≤◌, [], OnOk, Some, slice_get, vec_len};
 ghost use Rattle.clnp_machine.specs.Content.{Content};
-ghost use Rattle.clnp_network.specs.LabelledNetwork as network;
+ghost use Rattle.clnp_machine.specs.ClnpNetwork.LabelledNetwork as network;
 ghost use Rattle.clnp_systems.specs.Stands.{entity_of};
 ghost use Rattle.clnp_systems.specs.Steps.{Carries, MayCome, input_with};
 ghost use Rattle.clnp_systems.specs.declared.system.System.{System};

@@ -1,7 +1,7 @@
 //! Copies that are given to the systems that they are for.
 ghost use Rattle.std.specs.Prelude.{◌≡◌, ◌+◌, ◌<◌, ◌≤◌, ◌∷◌, [], IfSome, OnOk, Some, slice_get, vec_len};
 ghost use Rattle.clnp_machine.specs.System.{SystemState};
-ghost use Rattle.clnp_network.specs.LabelledNetwork as network;
+ghost use Rattle.clnp_machine.specs.ClnpNetwork.LabelledNetwork as network;
 ghost use Rattle.clnp_machine.specs.ClnpPlan.Journal.{Late, Received, Void};
 ghost use Rattle.clnp_world.specs.Lines.{Gains};
 ghost use Rattle.clnp_world.specs.Parts.{Follows, Holds, IsRunning, Shows};

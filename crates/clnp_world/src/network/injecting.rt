@@ -1,16 +1,16 @@
 //! Frames that come from outside.
 ghost use Rattle.std.specs.Prelude.{◌≤◌, OnOk, length};
 ghost use Rattle.hex.specs.Hex.{IsBytes};
-ghost use Rattle.clnp_network.specs.LabelledNetwork as network;
+ghost use Rattle.clnp_machine.specs.ClnpNetwork.LabelledNetwork as network;
 ghost use Rattle.clnp_world.specs.Parts.{Follows, Holds};
 
 use super::Network;
 use crate::copy::{FrameCopy, Origin};
 use crate::lines::{Line, LineSink};
 use clnp_machine::base::{NoMemory, Octets};
+use clnp_machine::clnp_network::scenarios::Subnet;
 use clnp_machine::nsaps::{Snpa, Target};
 use clnp_machine::views::Frame;
-use clnp_network::scenarios::Subnet;
 use std::alloc::Global;
 
 impl Network {

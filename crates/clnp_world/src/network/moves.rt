@@ -2,17 +2,17 @@
 ghost use Rattle.std.specs.Prelude.{◌≡◌, ◌+◌, ◌<◌, ◌≤◌, ◌^◌, ℕ, List, ◌++◌, OnOk, OnErr, Some, length, slice_get, vec_len};
 ghost use Rattle.std.specs.List.{AllByRecursion, range_with_len};
 ghost use Rattle.clnp_machine.specs.System.{IsRestarted, IsCongested};
-ghost use Rattle.clnp_network.specs.LabelledNetwork as network;
+ghost use Rattle.clnp_machine.specs.ClnpNetwork.LabelledNetwork as network;
 ghost use Rattle.clnp_world.specs.Parts.{Follows, Holds, IsRunning, MayGoOn};
-ghost use Rattle.clnp_network.specs.ScenarioPlan.Plan.{AsksFairly, InjectsInForm, IsSaid};
+ghost use Rattle.clnp_machine.specs.ScenarioPlan.Plan.{AsksFairly, InjectsInForm, IsSaid};
 
 use super::Network;
 use super::coming::names_of_inputs;
 use crate::copy::NO_FRAME;
 use crate::lines::{Line, LineSink};
 use clnp_machine::base::NoMemory;
+use clnp_machine::clnp_network::scenarios::{Event, Move, Scenario, Subnet};
 use clnp_machine::system_plan::Limits;
-use clnp_network::scenarios::{Event, Move, Scenario, Subnet};
 use clnp_systems::Input;
 use std::alloc::Global;
 

@@ -7,7 +7,7 @@ ghost use Rattle.clnp_machine.specs.System as machine;
 ghost use Rattle.clnp_machine.specs.System.{SystemState};
 ghost use Rattle.clnp_machine.specs.Ways.{IsOwnWhereFirst};
 ghost use Rattle.std.specs.List.{AllByRecursion};
-ghost use Rattle.clnp_network.specs.LabelledNetwork as network;
+ghost use Rattle.clnp_machine.specs.ClnpNetwork.LabelledNetwork as network;
 ghost use Rattle.clnp_machine.specs.ClnpPlan.Journal.{Noted, Transmitted};
 ghost use Rattle.clnp_world.specs.Lines.{Gains};
 ghost use Rattle.clnp_world.specs.Parts.{Puts, PutsCopies, Shows};

@@ -1,20 +1,20 @@
 //! Data units that a host is asked to send.
 ghost use Rattle.std.specs.Prelude.{OnOk, false};
 ghost use Rattle.clnp_machine.specs.System.{AsksForEcho, AsksToSend};
-ghost use Rattle.clnp_network.specs.LabelledNetwork as network;
+ghost use Rattle.clnp_machine.specs.ClnpNetwork.LabelledNetwork as network;
 ghost use Rattle.clnp_machine.specs.ClnpOptions.Grammar.{FitsKind};
 ghost use Rattle.clnp_machine.specs.ClnpOptions.Parameter.{parameters};
 ghost use Rattle.clnp_world.specs.Parts.{Follows, Holds};
-ghost use Rattle.clnp_network.specs.ScenarioPlan.Plan.{octets_of};
+ghost use Rattle.clnp_machine.specs.ScenarioPlan.Plan.{octets_of};
 
 use super::Network;
 use super::coming::names_of_inputs;
 use crate::copy::NO_FRAME;
 use crate::lines::LineSink;
 use clnp_machine::base::NoMemory;
+use clnp_machine::clnp_network::scenarios::Body;
 use clnp_machine::nsaps::Address;
 use clnp_machine::system_plan::{Ask, Role};
-use clnp_network::scenarios::Body;
 use clnp_systems::Input;
 use std::alloc::Global;
 

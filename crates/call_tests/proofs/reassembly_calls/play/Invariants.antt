@@ -1,5 +1,5 @@
 -- No buffer is whole before a step.
-use Rattle.reassembly.specs.NoWhole.{HasNoWhole}
+use Rattle.system_tables.specs.Reassembly.NoWhole.{HasNoWhole}
 use Rattle.call_tests.proofs.reassembly_calls.play.Given as goal
 
 abbrev pub invariant-loop-row : goal.invariant-loop-row

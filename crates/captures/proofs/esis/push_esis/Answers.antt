@@ -1,6 +1,6 @@
 use Rattle.std.proofs.Common.{◌≡◌, ◌++◌, ℕ, List, codes, subst}
 use Rattle.std.specs.Fmt.{decimal}
-use Rattle.esis_pdus.specs.ClnpOptions.Parameter.{parameters}
+use Rattle.pdus.specs.ClnpOptions.Parameter.{parameters}
 use Rattle.captures.specs.EsisShown.{body_text, esis_word}
 use Rattle.captures.specs.Words.{options_text, pair_word}
 use Rattle.captures.proofs.Keeping.{keeps_appended, keeps_itself, keeps_more, keeps_next, keeps_same, keeps_three, kept_always, kept_behind}

@@ -1,7 +1,7 @@
 use Rattle.std.proofs.Common.{◌≡◌, ◌++◌, ℕ, List, OnOk, codes, subst}
 use Rattle.std.specs.Fmt.{decimal}
-use Rattle.esis_pdus.specs.Nsap.Text.{hex_text}
-use Rattle.esis_pdus.specs.PduHeader.View.{pdu_value}
+use Rattle.pdus.specs.Nsap.Text.{hex_text}
+use Rattle.pdus.specs.PduHeader.View.{pdu_value}
 use Rattle.captures.specs.Shown.{front_text, kind_and_flags_text}
 use Rattle.captures.specs.Words.{pair_word}
 use Rattle.captures.proofs.Keeping.{keeps_appended, keeps_next, keeps_more, keeps_three, kept_always, kept_behind}

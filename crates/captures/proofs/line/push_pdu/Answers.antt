@@ -1,7 +1,7 @@
 use Rattle.std.proofs.Common.{codes, option_map}
-use Rattle.esis_pdus.specs.ClnpOptions.Parameter.{parameters}
-use Rattle.esis_pdus.specs.Nsap.Text.{hex_text}
-use Rattle.esis_pdus.specs.PduHeader.View.{pdu_value, part_value}
+use Rattle.pdus.specs.ClnpOptions.Parameter.{parameters}
+use Rattle.pdus.specs.Nsap.Text.{hex_text}
+use Rattle.pdus.specs.PduHeader.View.{pdu_value, part_value}
 use Rattle.captures.specs.Shown.{front_text, segmentation_text}
 use Rattle.captures.specs.Words.{options_text}
 use Rattle.captures.proofs.Keeping.{keeps_appended, keeps_next, keeps_more, keeps_three, kept_always, kept_behind}

@@ -1,5 +1,5 @@
 use Rattle.std.proofs.Common.{◌≡◌, ◌++◌, length}
-use Rattle.esis_pdus.specs.ClnpOptions.Parameter.{parameters}
+use Rattle.pdus.specs.ClnpOptions.Parameter.{parameters}
 use Rattle.captures.specs.Kept.{Keeps}
 use Rattle.captures.specs.Words.{options_text}
 use Rattle.captures.proofs.words.push_options.Given as goal

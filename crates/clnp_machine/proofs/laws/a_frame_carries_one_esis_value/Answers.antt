@@ -1,5 +1,5 @@
 use Rattle.std.proofs.Common.{refl, ◌++◌}
-use Rattle.esis_pdus.specs.Spelling.{spelling}
+use Rattle.pdus.specs.EsisPdus.Spelling.{spelling}
 use Rattle.clnp_machine.proofs.laws.a_frame_carries_one_esis_value.Goals as goal
 
 pub returns : goal.returns

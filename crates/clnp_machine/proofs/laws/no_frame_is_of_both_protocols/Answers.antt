@@ -1,5 +1,5 @@
 use Rattle.std.proofs.Common.{refl, ◌++◌}
-use Rattle.esis_pdus.specs.Spelling.{spelling}
+use Rattle.pdus.specs.EsisPdus.Spelling.{spelling}
 use Rattle.clnp_machine.specs.Unit.{value_of, wire}
 use Rattle.clnp_machine.proofs.laws.no_frame_is_of_both_protocols.Goals as goal
 

@@ -2,7 +2,7 @@ use Rattle.std.proofs.Common.{◌≡◌, ◌<◌, ◌/◌, ◌%◌, ◌++◌, �
 use Rattle.std.specs.Prelude.{slice_index}
 use Rattle.hex.specs.Hex.{encode_with}
 use Rattle.clnp_plan.specs.Journal.{octets_word}
-use Rattle.pdu_header.specs.Nsap.Text.{hex_text}
+use Rattle.pdus.specs.Nsap.Text.{hex_text}
 use Rattle.clnp_plan.proofs.line.frame_word.Goals as goal
 
 digits_of_both : (digits front behind : List ℕ) → encode_with digits front ++ encode_with digits behind ≡ encode_with digits (front ++ behind)

@@ -1,4 +1,4 @@
-use Rattle.clnp_network.specs.Run.{moves_made}
+use Rattle.clnp_machine.specs.ClnpNetwork.Run.{moves_made}
 use Rattle.clnp_safety.proofs.Clocks.{run_stays, together_stays}
 use Rattle.clnp_safety.proofs.Runs.{none_interferes}
 use Rattle.clnp_safety.proofs.laws.no_unit_meets_another.Goals as goal

@@ -1,4 +1,4 @@
-use Rattle.clnp_network.specs.Run.{moves_made}
+use Rattle.clnp_machine.specs.ClnpNetwork.Run.{moves_made}
 use Rattle.clnp_safety.proofs.laws.runs_are_safe.Goals as goal
 
 pub returns : goal.returns

@@ -1,5 +1,5 @@
 use Rattle.std.proofs.Common.{refl}
-use Rattle.scenario_writing.specs.Scenario.Grammar.{plan_of_version_1}
+use Rattle.scenario.specs.Grammar.{plan_of_version_1}
 use Rattle.clnp_safety.proofs.Migrating.{of_each, text_migrates}
 use Rattle.clnp_safety.proofs.laws.texts_of_version_1_migrate.Goals as goal
 

@@ -6,7 +6,7 @@ use Rattle.std.proofs.lemmas.List.{take_at}
 use Rattle.clnp_machine.specs.ClnpPlan.declared.output.Output.{Output}
 use Rattle.clnp_machine.specs.ClnpViews.Extent.{seen}
 use Rattle.clnp_machine.specs.MadePdus.Left.{IsCutOf}
-use Rattle.clnp_machine.specs.MadePdus.declared.cuts.Cut.{Cut}
+use Rattle.clnp_machine.specs.Pdus.declared.made_pdus.cuts.Cut.{Cut}
 use Rattle.clnp_systems.specs.Sending.{transmission}
 use Rattle.clnp_systems.proofs.Pieces.{front_stays, piece_is, sent_with}
 use Rattle.clnp_systems.proofs.sending.give_pieces.Goals as goal

@@ -4,7 +4,7 @@ use Rattle.std.proofs.lemmas.List.{take_at}
 use Rattle.std.proofs.lemmas.Result.{err_from_is_err_and}
 use Rattle.std.specs.List.{AllByRecursion}
 use Rattle.clnp_machine.specs.MadePdus.Left.{IsCutOf}
-use Rattle.clnp_machine.specs.MadePdus.declared.cuts.Cut.{Cut}
+use Rattle.clnp_machine.specs.Pdus.declared.made_pdus.cuts.Cut.{Cut}
 use Rattle.clnp_systems.proofs.Pieces.{given_more}
 use Rattle.clnp_systems.proofs.sending.push_pieces.Goals as goal
 

@@ -3,7 +3,7 @@ ghost use Rattle.std.specs.Prelude.{◌≡◌, ◌≢◌, ◌≤◌, ◌<◌, �
 ghost use Rattle.clnp_machine.specs.ClnpOptions.Parameter.{Parameter};
 ghost use Rattle.clnp_machine.specs.ClnpOptions.Reasons.{reason_code};
 ghost use Rattle.clnp_machine.specs.ClnpViews.Extent.{seen};
-ghost use Rattle.clnp_machine.specs.PduHeader.declared.kind.Kind.{Kind as KindOf};
+ghost use Rattle.clnp_machine.specs.Pdus.declared.pdu_header.kind.Kind.{Kind as KindOf};
 ghost use Rattle.clnp_machine.specs.Reassembly.Arrival.{Arrival, data_len};
 ghost use Rattle.clnp_machine.specs.Reassembly.Buffer as buffer;
 ghost use Rattle.clnp_machine.specs.Reassembly.Buffer.{Buffer};

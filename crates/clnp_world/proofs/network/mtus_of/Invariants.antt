@@ -1,5 +1,5 @@
 use Rattle.std.proofs.Common.{◌≡◌, map, take}
-use Rattle.clnp_network.specs.ScenarioPlan.Plan.{Subnetwork}
+use Rattle.clnp_machine.specs.ScenarioPlan.Plan.{Subnetwork}
 use Rattle.clnp_world.proofs.network.mtus_of.Given as goal
 
 abbrev pub invariant-loop-subnet : goal.invariant-loop-subnet

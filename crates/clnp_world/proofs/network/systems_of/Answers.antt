@@ -1,7 +1,7 @@
 -- One more system is at its start.
 use Rattle.std.proofs.Common.{◌+◌, List, [], ◌∷◌, ◌++◌, take, sym, subst, arith, refl}
 use Rattle.clnp_machine.specs.System.{SystemState, first_state}
-use Rattle.clnp_network.specs.LabelledNetwork as network
+use Rattle.clnp_machine.specs.ClnpNetwork.LabelledNetwork as network
 use Rattle.clnp_systems.specs.declared.system.System.{System}
 use Rattle.clnp_world.specs.Stands.{StandEach}
 use Rattle.clnp_world.proofs.EachSteps.{each_push}

@@ -2,9 +2,9 @@ use Rattle.std.proofs.Common.{◌≡◌, ◌∙◌, refl, sym, List, ℕ, [], �
 use Rattle.std.specs.Prelude.{IsSome}
 use Rattle.std.proofs.lemmas.Bool.{not-false}
 use Rattle.std.proofs.lemmas.Slice.Eq.{bytes_eq-Decides}
-use Rattle.made_pdus.specs.ClnpOptions.Parameter.{parameters, parameters_after}
-use Rattle.made_pdus.specs.ClnpOptions.Edits.{target_of, title_at, value_of}
-use Rattle.made_pdus.specs.PduHeader.View.{pdu_value}
+use Rattle.pdus.specs.ClnpOptions.Parameter.{parameters, parameters_after}
+use Rattle.pdus.specs.ClnpOptions.Edits.{target_of, title_at, value_of}
+use Rattle.pdus.specs.PduHeader.View.{pdu_value}
 use Rattle.codec_tests.proofs.pdu_header_calls.advanced.Goals as goal
 
 -- the options of the worked header

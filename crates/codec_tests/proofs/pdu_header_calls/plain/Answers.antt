@@ -1,6 +1,6 @@
 use Rattle.std.proofs.Common.{◌≡◌, ◌∙◌, ap, refl, false, []}
-use Rattle.made_pdus.specs.ClnpOptions.Parameter.{parameters}
-use Rattle.made_pdus.specs.ClnpOptions.Rules.{place_of}
+use Rattle.pdus.specs.ClnpOptions.Parameter.{parameters}
+use Rattle.pdus.specs.ClnpOptions.Rules.{place_of}
 use Rattle.codec_tests.proofs.pdu_header_calls.plain.Goals as goal
 
 pub returns : goal.returns

@@ -1,5 +1,5 @@
 use Rattle.std.proofs.Common.{refl, arith}
-use Rattle.made_pdus.specs.PduHeader.View.{pdu_value}
+use Rattle.pdus.specs.PduHeader.View.{pdu_value}
 use Rattle.codec_tests.proofs.segmenter_calls.cuts_of.Goals as goal
 
 pub of-requires : goal.of-requires

@@ -1,5 +1,5 @@
 use Rattle.std.specs.List.{AllByRecursion}
-use Rattle.made_pdus.specs.Left.{IsCutOf}
+use Rattle.pdus.specs.MadePdus.Left.{IsCutOf}
 use Rattle.codec_tests.proofs.segmenter_calls.cuts_pieces_again.Given as goal
 
 abbrev pub invariant-loop-want : goal.invariant-loop-want

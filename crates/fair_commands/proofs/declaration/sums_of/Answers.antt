@@ -1,5 +1,5 @@
 use Rattle.std.proofs.Common.{arith}
-use Rattle.fair_reassembly.specs.Reassembly.declared.table.TableLimits.{TableLimits}
+use Rattle.system_tables.specs.declared.reassembly.table.TableLimits.{TableLimits}
 use Rattle.fair_commands.proofs.Sums.{sum_more}
 use Rattle.fair_commands.proofs.declaration.sums_of.Goals as goal
 

@@ -1,6 +1,6 @@
 use Rattle.std.proofs.Common.{◌≡◌, ◌≤◌, ◌+◌, ◌*◌, map, sum, take}
-use Rattle.fair_reassembly.specs.Reassembly.declared.table.TableLimits.{TableLimits}
-use Rattle.fair_reassembly.specs.Tables.{limits_of}
+use Rattle.system_tables.specs.declared.reassembly.table.TableLimits.{TableLimits}
+use Rattle.system_tables.specs.FairReassembly.Tables.{limits_of}
 use Rattle.fair_commands.proofs.declaration.sums_of.Given as goal
 
 abbrev pub invariant-loop-share : goal.invariant-loop-share

@@ -1,8 +1,8 @@
 use Rattle.std.proofs.Common.{◌≡◌, rules, subst}
 use Rattle.fair_commands.specs.PduHeader.View.{part_value, pdu_value}
 use Rattle.fair_commands.specs.Telling.{told_by}
-use Rattle.fair_commands.specs.FairReassembly.Reassembly.declared.table.Accept.TheVariants as accept
-use Rattle.fair_commands.specs.FairReassembly.Reassembly.declared.table.SlotNo.{SlotNo}
+use Rattle.fair_commands.specs.SystemTables.declared.reassembly.table.Accept.TheVariants as accept
+use Rattle.fair_commands.specs.SystemTables.declared.reassembly.table.SlotNo.{SlotNo}
 use Rattle.fair_commands.specs.FairReassembly.Calls.{Accepts, Releases}
 use Rattle.fair_commands.specs.FairReassembly.Classes.{offers}
 use Rattle.fair_commands.proofs.FairReassembly.Changed.{changed_as, changed_then}

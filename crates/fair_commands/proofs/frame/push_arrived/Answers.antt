@@ -1,5 +1,5 @@
 use Rattle.fair_commands.specs.PduHeader.View.{part_value, pdu_value}
-use Rattle.fair_commands.specs.FairReassembly.Reassembly.State.{IsReady}
+use Rattle.fair_commands.specs.Reassembly.State.{IsReady}
 use Rattle.fair_commands.specs.FairReassembly.Tables.{place_of}
 use Rattle.std.proofs.Common.{ap}
 use Rattle.std.specs.Prelude.{option_map}

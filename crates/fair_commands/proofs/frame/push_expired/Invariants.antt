@@ -1,5 +1,5 @@
 use Rattle.std.proofs.Common.{◌≡◌, ℕ, List}
-use Rattle.fair_commands.specs.FairReassembly.Reassembly.NoWhole.{HasNoWhole}
+use Rattle.fair_commands.specs.Reassembly.NoWhole.{HasNoWhole}
 use Rattle.fair_commands.specs.FairReassembly.Tables.{At, ChangesTable, FairState, place_of}
 use Rattle.fair_commands.specs.Frames.{Tells}
 use Rattle.fair_commands.proofs.Expired.{expires, open_at}

@@ -2,8 +2,8 @@ use Rattle.std.proofs.Common.{◌≡◌, ◌++◌, [], ℕ, List, length, ap, �
 use Rattle.std.proofs.lemmas.Result.{err_from_is_err_and}
 use Rattle.fair_commands.specs.Grammar.{Capture}
 use Rattle.fair_commands.specs.Output.{end_line}
-use Rattle.fair_commands.specs.FairReassembly.declared.came.Came.{Came}
-use Rattle.fair_commands.specs.FairReassembly.declared.share.Share.{Share}
+use Rattle.fair_commands.specs.SystemTables.declared.fair_reassembly.came.Came.{Came}
+use Rattle.fair_commands.specs.SystemTables.declared.fair_reassembly.share.Share.{Share}
 use Rattle.fair_commands.specs.FairReassembly.Behind.{StandBehind}
 use Rattle.fair_commands.specs.FairReassembly.Classes.{Shares}
 use Rattle.fair_commands.specs.Writing.{EndOf, StopOf, UnderWay}

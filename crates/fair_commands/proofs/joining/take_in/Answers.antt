@@ -1,7 +1,7 @@
 use Rattle.std.proofs.Common.{◌≡◌, ◌+◌, ◌++◌, ◌∷◌, [], List, take, drop, sym, ap, ◌∙◌, subst, arith, take_all, take-append-drop}
 use Rattle.std.proofs.lemmas.List.{take_more}
 use Rattle.std.proofs.lemmas.Result.{err_from_is_err_and}
-use Rattle.fair_commands.specs.FairReassembly.declared.came.Came.{Came}
+use Rattle.fair_commands.specs.SystemTables.declared.fair_reassembly.came.Came.{Came}
 use Rattle.fair_commands.specs.Writing.{UnderWay}
 use Rattle.fair_commands.proofs.Writing.{stopped_before}
 use Rattle.fair_commands.proofs.joining.take_in.Goals as goal

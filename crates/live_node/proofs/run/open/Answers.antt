@@ -4,7 +4,7 @@ use Rattle.clnp_machine.specs.ClnpPlan.Configuration.{SystemConfiguration}
 use Rattle.clnp_machine.specs.ClnpPlan.declared.config.Limits.{Limits}
 use Rattle.clnp_machine.specs.System.{first_state}
 use Rattle.clnp_systems.specs.Stands as clnp_systems
-use Rattle.live_model.specs.Course.{first_node}
+use Rattle.clnp_machine.specs.LiveModel.Course.{first_node}
 use Rattle.live_node.specs.Plays.{Stands, attached_of}
 use Rattle.live_node.specs.declared.node.LiveNode.{LiveNode}
 use Rattle.live_node.proofs.run.open.Goals as goal

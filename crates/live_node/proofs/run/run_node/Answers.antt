@@ -1,6 +1,6 @@
 -- From the start to the end.
 use Rattle.std.proofs.Common.{subst, sym}
-use Rattle.live_model.specs.Course.{first_node}
+use Rattle.clnp_machine.specs.LiveModel.Course.{first_node}
 use Rattle.live_node.specs.Plays.{Stands, attached_of}
 use Rattle.live_node.specs.declared.node.LiveNode.{LiveNode}
 use Rattle.live_node.proofs.Runs.{only_one, ran_nowhere}

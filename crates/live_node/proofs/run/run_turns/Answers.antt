@@ -1,6 +1,6 @@
 -- One turn after another.
 use Rattle.std.proofs.Common.{◌≡◌, ◌∙◌, List, refl, ap, sym, subst, arith}
-use Rattle.live_model.specs.Turn.{Due, dues_from}
+use Rattle.clnp_machine.specs.LiveModel.Turn.{Due, dues_from}
 use Rattle.live_node.specs.Agenda.{dues_of}
 use Rattle.live_node.specs.declared.agenda.Agenda.{Agenda}
 use Rattle.live_node.specs.Ran.{RanTo}

@@ -1,7 +1,7 @@
 use Rattle.std.proofs.Common.{◌≡◌, ◌≤◌, length}
 use Rattle.clnp_systems.specs.Stands as clnp_systems
-use Rattle.live_model.specs.Node.{Node}
-use Rattle.live_model.specs.Turn.{dues_from}
+use Rattle.clnp_machine.specs.LiveModel.Node.{Node}
+use Rattle.clnp_machine.specs.LiveModel.Turn.{dues_from}
 use Rattle.live_node.specs.Agenda.{dues_of}
 use Rattle.live_node.specs.Plays.{Stands}
 use Rattle.live_node.specs.Ran.{RanTo}

@@ -3,7 +3,7 @@ use Rattle.std.proofs.lemmas.Result.{err_from_is_err_and}
 use Rattle.clnp_plan.specs.ClnpBase.Text.{lines_of}
 use Rattle.scenario.specs.Events.{Scene, counted, first_scene, scene_of, nothing_counted}
 use Rattle.scenario.specs.Grammar.{event_for, events_from}
-use Rattle.scenario_plan.specs.Plan.{ticks_of}
+use Rattle.clnp_plan.specs.ScenarioPlan.Plan.{ticks_of}
 use Rattle.scenario.proofs.Readings.{nothing_before}
 use Rattle.scenario.proofs.Clocks.{first_slow, room, slower, ticks_few}
 use Rattle.scenario.proofs.Events.{skips, goes_on, stops, ends, stops_after, lacks_end}

@@ -1,5 +1,5 @@
 use Rattle.std.proofs.Common.{sym, arith}
-use Rattle.scenario_plan.specs.Standing.{with_prefix}
+use Rattle.clnp_plan.specs.ScenarioPlan.Standing.{with_prefix}
 use Rattle.scenario.proofs.Lists.{changed_beyond, changed_if_ok}
 use Rattle.scenario.proofs.standing.add_prefix.Goals as goal
 

@@ -2,7 +2,7 @@
 use Rattle.std.proofs.Common.{◌<◌, length, arith}
 use Rattle.std.proofs.lemmas.List.Edits.{map_over_more}
 use Rattle.std.proofs.lemmas.List.{get_or_default}
-use Rattle.scenario_plan.specs.Standing.{moved}
+use Rattle.clnp_plan.specs.ScenarioPlan.Standing.{moved}
 use Rattle.scenario.proofs.standing.move_port.Goals as goal
 
 pub loop-spot-preserved : goal.loop-spot-preserved

@@ -1,6 +1,6 @@
 -- The ports so far are at their places.
 use Rattle.std.proofs.Common.{◌≡◌, ◌++◌, map, take, drop}
-use Rattle.scenario_plan.specs.Standing.{moved}
+use Rattle.clnp_plan.specs.ScenarioPlan.Standing.{moved}
 use Rattle.scenario.proofs.standing.move_port.Given as goal
 
 abbrev pub invariant-loop-spot : goal.invariant-loop-spot

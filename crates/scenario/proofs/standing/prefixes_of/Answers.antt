@@ -1,6 +1,6 @@
 use Rattle.std.proofs.Common.{◌<◌, length, map, ap, ◌∙◌}
-use Rattle.clnp_plan.specs.Forwarding.declared.route.Route.{Route}
-use Rattle.scenario_plan.specs.Standing.{prefixes_of}
+use Rattle.clnp_plan.specs.SystemTables.declared.forwarding.route.Route.{Route}
+use Rattle.clnp_plan.specs.ScenarioPlan.Standing.{prefixes_of}
 use Rattle.scenario.proofs.Lists.{mapped_more}
 use Rattle.scenario.proofs.standing.prefixes_of.Goals as goal
 

@@ -1,5 +1,5 @@
 use Rattle.std.proofs.Common.{◌≡◌, map, take}
-use Rattle.scenario_plan.specs.Standing.{prefixes_of}
+use Rattle.clnp_plan.specs.ScenarioPlan.Standing.{prefixes_of}
 use Rattle.scenario.proofs.standing.prefixes_of.Given as goal
 
 abbrev pub invariant-loop-system : goal.invariant-loop-system

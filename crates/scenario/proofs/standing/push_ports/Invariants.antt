@@ -1,5 +1,5 @@
 use Rattle.std.proofs.Common.{◌≡◌, ◌++◌, ◌+◌, ◌≤◌, length}
-use Rattle.scenario_plan.specs.Standing.{spots_from}
+use Rattle.clnp_plan.specs.ScenarioPlan.Standing.{spots_from}
 use Rattle.scenario.proofs.standing.push_ports.Given as goal
 
 abbrev pub invariant-loop-left : goal.invariant-loop-left

@@ -1,5 +1,5 @@
 use Rattle.std.proofs.Common.{set, sym, ap, ◌∙◌, arith}
-use Rattle.scenario_plan.specs.Standing.{without_prefix}
+use Rattle.clnp_plan.specs.ScenarioPlan.Standing.{without_prefix}
 use Rattle.scenario.proofs.Lists.{changed_beyond, changed_is_set}
 use Rattle.scenario.proofs.standing.remove_prefix.Goals as goal
 

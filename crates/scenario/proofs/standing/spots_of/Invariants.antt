@@ -1,5 +1,5 @@
 use Rattle.std.proofs.Common.{◌≡◌, ◌++◌, ◌+◌, ◌≤◌, length}
-use Rattle.scenario_plan.specs.Standing.{spots_of}
+use Rattle.clnp_plan.specs.ScenarioPlan.Standing.{spots_of}
 use Rattle.scenario.proofs.standing.spots_of.Given as goal
 
 abbrev pub invariant-loop-left : goal.invariant-loop-left

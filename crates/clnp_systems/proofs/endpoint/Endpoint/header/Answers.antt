@@ -1,6 +1,6 @@
 use Rattle.std.proofs.Common.{◌<◌, ◌∙◌, ap, subst}
 use Rattle.std.specs.Prelude.{ℕ, Some}
-use Rattle.clnp_machine.specs.PduHeader.declared.header.HeaderRefusal.{HeaderRefusal}
+use Rattle.clnp_machine.specs.Pdus.declared.pdu_header.header.HeaderRefusal.{HeaderRefusal}
 use Rattle.clnp_machine.specs.PduHeader.Value.{PduValue}
 use Rattle.clnp_machine.specs.PduHeader.Headers.{SpellsHeader}
 use Rattle.clnp_machine.specs.PduHeader.Spelling.{header_length}

@@ -1,7 +1,7 @@
 -- A request is a unit that is made as its definition asks.
 use Rattle.std.proofs.Common.{◌≡◌, None, MatchResult, sym, subst}
 use Rattle.std.proofs.lemmas.Result.{on_ok_weaker}
-use Rattle.clnp_machine.specs.PduHeader.declared.kind.Kind.TheVariants.{Erq}
+use Rattle.clnp_machine.specs.Pdus.declared.pdu_header.kind.Kind.TheVariants.{Erq}
 use Rattle.clnp_machine.specs.ClnpPlan.declared.ask.Ask.{Ask}
 use Rattle.clnp_machine.specs.Given.{Appends}
 use Rattle.clnp_machine.specs.Local as locally

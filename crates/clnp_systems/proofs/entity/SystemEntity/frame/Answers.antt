@@ -1,6 +1,6 @@
 -- The step is whole, or nothing was done yet.
 use Rattle.std.proofs.Common.{refl, sym, subst, Bool, false, List}
-use Rattle.clnp_machine.specs.EsisTables.declared.fact.Neighbour.{Neighbour}
+use Rattle.clnp_machine.specs.SystemTables.declared.esis_tables.fact.Neighbour.{Neighbour}
 use Rattle.clnp_machine.specs.ClnpPlan.declared.output.Output.{Output}
 use Rattle.clnp_machine.specs.Content.{Content}
 use Rattle.clnp_machine.specs.Step.{content_comes}

@@ -1,6 +1,6 @@
 -- What was heard tells it.
 use Rattle.std.proofs.Common.{◌∙◌, sym, ap, subst, ℕ, ◌≤◌}
-use Rattle.clnp_machine.specs.EsisTables.declared.fact.TableKind.TheVariants.{Es}
+use Rattle.clnp_machine.specs.SystemTables.declared.esis_tables.fact.TableKind.TheVariants.{Es}
 use Rattle.clnp_machine.specs.EsisTables.NextHop.{current_neighbour}
 use Rattle.clnp_systems.specs.EntityState.{SystemEntityState}
 use Rattle.clnp_systems.specs.EntityStands.{PartsStandSince}

@@ -1,7 +1,7 @@
 -- No two routes of a configuration have one prefix.
 use Rattle.std.proofs.Common.{◌∙◌, sym, ap, subst, List, Err}
 use Rattle.clnp_machine.specs.Forwarding.Distinct.{AreDistinct}
-use Rattle.clnp_machine.specs.Forwarding.declared.route.Route.{Route}
+use Rattle.clnp_machine.specs.SystemTables.declared.forwarding.route.Route.{Route}
 use Rattle.clnp_systems.proofs.entity.steps.routes_of.Goals as goal
 
 pub unreachable-requires : goal.unreachable-requires

@@ -1,7 +1,7 @@
 -- What is told, with a title or none.
 use Rattle.std.proofs.Common.{ℕ, [], ◌∷◌, List, Option, subst, None}
 use Rattle.std.proofs.lemmas.Result.{on_ok_weaker}
-use Rattle.clnp_machine.specs.Nsap.declared.target.Target.TheVariants.{System}
+use Rattle.clnp_machine.specs.Pdus.declared.nsap.target.Target.TheVariants.{System}
 use Rattle.clnp_machine.specs.Esis.{redirect}
 use Rattle.clnp_machine.specs.Given.{Appends}
 use Rattle.clnp_machine.specs.System.{SendsEsis}

@@ -1,4 +1,4 @@
-use Rattle.clnp_machine.specs.EsisTables.declared.fact.TableKind.TheVariants.{Is}
+use Rattle.clnp_machine.specs.SystemTables.declared.esis_tables.fact.TableKind.TheVariants.{Is}
 use Rattle.clnp_machine.specs.Esis.{hears}
 use Rattle.clnp_machine.specs.System.{Effect}
 use Rattle.clnp_systems.proofs.Effects.{does_answer}

@@ -1,5 +1,5 @@
 use Rattle.std.proofs.Common.{ap, sym, subst, []}
-use Rattle.clnp_machine.specs.EsisTables.declared.tables.Tables.{Tables}
+use Rattle.clnp_machine.specs.SystemTables.declared.esis_tables.tables.Tables.{Tables}
 use Rattle.clnp_machine.specs.EsisTables.Stands as esis_tables
 use Rattle.clnp_systems.specs.EsisState.{EsisState}
 use Rattle.clnp_systems.proofs.esis.EsisEntity.neighbour.Goals as goal

@@ -1,6 +1,6 @@
 use Rattle.std.proofs.Common.{ℕ, [], ◌∷◌, Option, sym, ap, subst}
 use Rattle.clnp_machine.specs.ClnpOptions.Reasons.{reason_code}
-use Rattle.clnp_machine.specs.ClnpOptions.declared.reasons.Reason.TheVariants.{LifetimeExpiredInReassembly}
+use Rattle.clnp_machine.specs.Pdus.declared.clnp_options.reasons.Reason.TheVariants.{LifetimeExpiredInReassembly}
 use Rattle.clnp_machine.specs.ClnpPlan.declared.note.Note.TheVariants.{Expired}
 use Rattle.clnp_machine.specs.Reassembly.Buffer.{held}
 use Rattle.clnp_machine.specs.Unit.{Packet}

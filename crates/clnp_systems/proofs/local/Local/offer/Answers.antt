@@ -4,7 +4,7 @@ use Rattle.std.proofs.lemmas.Result.{on_ok_weaker}
 use Rattle.clnp_machine.specs.ClnpViews.Extent.{seen}
 use Rattle.clnp_machine.specs.Reassembly.Arrival.{Arrival, arrival_of, octet_in}
 use Rattle.clnp_machine.specs.Reassembly.Buffer.{after, data_of}
-use Rattle.clnp_machine.specs.Reassembly.declared.table.TableLimits.{TableLimits}
+use Rattle.clnp_machine.specs.SystemTables.declared.reassembly.table.TableLimits.{TableLimits}
 use Rattle.clnp_machine.specs.Reassembly.State.{IsReady, TableState, said}
 use Rattle.clnp_machine.specs.Local.{Deed, hand_up, takes_in}
 use Rattle.clnp_systems.specs.declared.action.Action.{Action}

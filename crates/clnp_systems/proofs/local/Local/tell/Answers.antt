@@ -1,7 +1,7 @@
 use Rattle.std.proofs.Common.{ℕ, ◌∷◌, ap, refl, sym, subst}
 use Rattle.std.proofs.lemmas.Result.{on_err_weaker, on_ok_weaker}
 use Rattle.clnp_machine.specs.ClnpOptions.Reasons.{reason_code}
-use Rattle.clnp_machine.specs.ClnpOptions.declared.reasons.Reason.TheVariants.{ReassemblyInterference}
+use Rattle.clnp_machine.specs.Pdus.declared.clnp_options.reasons.Reason.TheVariants.{ReassemblyInterference}
 use Rattle.clnp_machine.specs.ClnpPlan.declared.note.Note.TheVariants.{Held, Interference}
 use Rattle.clnp_machine.specs.Local.{Tells, discard}
 use Rattle.clnp_systems.specs.Local.{Appends}

@@ -2,7 +2,7 @@
 use Rattle.std.proofs.Common.{◌∙◌, sym, ap, subst, ℕ, List, None}
 use Rattle.std.proofs.lemmas.Result.{on_ok_weaker}
 use Rattle.std.specs.Prelude.{Result}
-use Rattle.clnp_machine.specs.ClnpOptions.declared.reasons.Reason.{Reason}
+use Rattle.clnp_machine.specs.Pdus.declared.clnp_options.reasons.Reason.{Reason}
 use Rattle.clnp_machine.specs.Content.{Labelled}
 use Rattle.clnp_machine.specs.Given.{Appends}
 use Rattle.clnp_machine.specs.Local.{discard}

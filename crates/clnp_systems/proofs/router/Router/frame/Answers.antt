@@ -1,6 +1,6 @@
 -- What its entity leaves to it is forwarded.
 use Rattle.std.proofs.Common.{◌∙◌, sym, ap, subst, List, Some}
-use Rattle.clnp_machine.specs.EsisTables.declared.fact.Neighbour.{Neighbour}
+use Rattle.clnp_machine.specs.SystemTables.declared.esis_tables.fact.Neighbour.{Neighbour}
 use Rattle.clnp_machine.specs.ClnpPlan.Configuration.{SystemConfiguration}
 use Rattle.clnp_machine.specs.ClnpPlan.declared.config.Role.TheVariants as role
 use Rattle.clnp_machine.specs.ClnpPlan.declared.output.Output.{Output}

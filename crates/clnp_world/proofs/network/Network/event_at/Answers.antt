@@ -3,8 +3,8 @@ use Rattle.std.proofs.Common.{◌≡◌, Option, None, Some, arith, refl, subst,
 use Rattle.std.specs.Prelude.{slice_get}
 use Rattle.std.proofs.lemmas.Option.{slice_get_past, slice_get_read}
 use Rattle.std.proofs.lemmas.Result.{on_ok_weaker}
-use Rattle.clnp_network.specs.ScenarioPlan.declared.event.Event.{Event}
-use Rattle.clnp_network.specs.LabelledNetwork as network
+use Rattle.clnp_machine.specs.ClnpPlan.declared.scenario_plan.event.Event.{Event}
+use Rattle.clnp_machine.specs.ClnpNetwork.LabelledNetwork as network
 use Rattle.clnp_world.specs.Parts.{Follows}
 use Rattle.clnp_world.proofs.GiveSteps.{follows_nothing}
 use Rattle.clnp_world.proofs.network.Network.event_at.Goals as goal

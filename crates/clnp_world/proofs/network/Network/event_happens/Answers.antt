@@ -1,11 +1,11 @@
 -- The system at the event's place sends.
 use Rattle.std.proofs.Common.{ℕ, OnOk, Some, sym, subst}
 use Rattle.std.proofs.lemmas.Result.{on_ok_weaker}
-use Rattle.clnp_network.specs.ScenarioPlan.Plan.{octets_of}
-use Rattle.clnp_network.specs.ScenarioPlan.declared.event.Event.{Event}
+use Rattle.clnp_machine.specs.ScenarioPlan.Plan.{octets_of}
+use Rattle.clnp_machine.specs.ClnpPlan.declared.scenario_plan.event.Event.{Event}
 use Rattle.clnp_machine.specs.ClnpPlan.declared.ask.Ask.{Ask}
 use Rattle.clnp_machine.specs.System.{AsksForEcho, AsksToSend, IsCongested, IsRestarted}
-use Rattle.clnp_network.specs.LabelledNetwork as network
+use Rattle.clnp_machine.specs.ClnpNetwork.LabelledNetwork as network
 use Rattle.clnp_world.specs.Parts.{Follows, Holds}
 use Rattle.clnp_world.proofs.network.Network.event_happens.Goals as goal
 

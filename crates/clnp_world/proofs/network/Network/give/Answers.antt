@@ -4,7 +4,7 @@ use Rattle.std.proofs.lemmas.Option.{slice_get_read}
 use Rattle.std.proofs.lemmas.Result.{on_ok_weaker}
 use Rattle.clnp_machine.specs.Step.{step}
 use Rattle.clnp_machine.specs.System.{FrameComes, Input, SystemState}
-use Rattle.clnp_network.specs.LabelledNetwork as network
+use Rattle.clnp_machine.specs.ClnpNetwork.LabelledNetwork as network
 use Rattle.clnp_machine.specs.ClnpPlan.Journal.{Received}
 use Rattle.clnp_world.specs.Lines.{Gains}
 use Rattle.clnp_world.specs.Parts.{Follows}

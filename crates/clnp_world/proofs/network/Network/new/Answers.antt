@@ -3,7 +3,7 @@ use Rattle.std.proofs.Common.{◌≤◌, ◌∙◌, List, ap, length, map, refl,
 use Rattle.std.specs.List.{AllByRecursion}
 use Rattle.clnp_machine.specs.ClnpPlan.Configuration.{IsWithin}
 use Rattle.clnp_machine.proofs.ClnpBase.Lists.{AllByRecursion-mapped}
-use Rattle.clnp_network.specs.ScenarioPlan.Plan.{Subnetwork}
+use Rattle.clnp_machine.specs.ScenarioPlan.Plan.{Subnetwork}
 use Rattle.clnp_world.specs.declared.copy.FrameCopy.{FrameCopy}
 use Rattle.clnp_world.proofs.ModelSteps.{placed_at_start, states_at_start}
 use Rattle.clnp_world.proofs.network.Network.new.Goals as goal

@@ -2,7 +2,7 @@
 use Rattle.std.proofs.Common.{List, ℕ, ◌∙◌, subst}
 use Rattle.std.proofs.lemmas.Result.{on_ok_weaker}
 use Rattle.clnp_machine.specs.System.{AsksToSend}
-use Rattle.clnp_network.specs.LabelledNetwork as network
+use Rattle.clnp_machine.specs.ClnpNetwork.LabelledNetwork as network
 use Rattle.clnp_world.specs.Parts.{Follows}
 use Rattle.clnp_world.proofs.network.Network.send.Goals as goal
 

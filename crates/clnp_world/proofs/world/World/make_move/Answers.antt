@@ -1,6 +1,6 @@
 -- The network makes the move; where memory is refused it is spent.
 use Rattle.std.proofs.Common.{◌≡◌, ◌∙◌, ◌+◌, ◌<◌, true, false, ap, refl, subst, sym}
-use Rattle.clnp_network.specs.LabelledNetwork as network
+use Rattle.clnp_machine.specs.ClnpNetwork.LabelledNetwork as network
 use Rattle.clnp_world.specs.Stands as seen
 use Rattle.clnp_world.specs.State.{WorldState}
 use Rattle.clnp_world.proofs.world.World.make_move.Goals as goal

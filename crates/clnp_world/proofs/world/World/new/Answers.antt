@@ -1,5 +1,5 @@
 -- At the start the network stands for that of the declarations.
-use Rattle.clnp_network.specs.LabelledNetwork.{first_world}
+use Rattle.clnp_machine.specs.ClnpNetwork.LabelledNetwork.{first_world}
 use Rattle.clnp_world.proofs.WorldSteps.{stands_for}
 use Rattle.clnp_world.proofs.world.World.new.Goals as goal
 

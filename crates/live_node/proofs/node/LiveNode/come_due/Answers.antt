@@ -5,7 +5,7 @@ use Rattle.clnp_machine.specs.ClnpPlan.Configuration.{SystemConfiguration}
 use Rattle.clnp_machine.specs.Content.{Unlabelled}
 use Rattle.clnp_machine.specs.System.{Input, MomentComes}
 use Rattle.clnp_systems.specs.Stands as clnp_systems
-use Rattle.live_model.specs.Node.{Node, Outcome, come_all, comes}
+use Rattle.clnp_machine.specs.LiveModel.Node.{Node, Outcome, come_all, comes}
 use Rattle.live_node.specs.Agenda.{asks_by, dues_of}
 use Rattle.live_node.specs.Plays.{Breaks, Plays}
 use Rattle.live_node.proofs.Breaking.{breaks_first, breaks_then, idle_come_all, on_err}

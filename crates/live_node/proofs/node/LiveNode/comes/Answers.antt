@@ -7,7 +7,7 @@ use Rattle.clnp_machine.specs.Step.{step}
 use Rattle.clnp_systems.specs.Stands as clnp_systems
 use Rattle.clnp_systems.specs.Steps.{Carries, TakesStep, input_with}
 use Rattle.clnp_systems.specs.declared.system.System.{System}
-use Rattle.live_model.specs.Node.{Node, comes, puts_all_out}
+use Rattle.clnp_machine.specs.LiveModel.Node.{Node, comes, puts_all_out}
 use Rattle.live_node.specs.Outputs.{PutAllOut}
 use Rattle.live_node.proofs.Breaking.{breaks_as, breaks_nothing, idle_comes, on_ok_there}
 use Rattle.live_node.proofs.Playing.{plays_as}

@@ -3,10 +3,10 @@ use Rattle.std.proofs.Common.{◌≡◌, ◌≤◌, ◌<◌, ◌+◌, ◌∙◌,
 use Rattle.clnp_machine.specs.ClnpPlan.Configuration.{SystemConfiguration}
 use Rattle.clnp_machine.specs.System.{Input}
 use Rattle.clnp_systems.specs.Stands as clnp_systems
-use Rattle.scenario_plan.specs.Plan.{ticks_of}
-use Rattle.scenario_plan.specs.declared.event.Event.{Event}
-use Rattle.live_model.specs.Node.{Node, Outcome, and_then, come_all}
-use Rattle.live_model.specs.Turn.{Due, asked_by}
+use Rattle.clnp_plan.specs.ScenarioPlan.Plan.{ticks_of}
+use Rattle.clnp_plan.specs.declared.scenario_plan.event.Event.{Event}
+use Rattle.clnp_machine.specs.LiveModel.Node.{Node, Outcome, and_then, come_all}
+use Rattle.clnp_machine.specs.LiveModel.Turn.{Due, asked_by}
 use Rattle.live_node.specs.Agenda.{asks_by, dues_of}
 use Rattle.live_node.specs.declared.agenda.Agenda.{Agenda}
 use Rattle.live_node.proofs.Breaking.{breaks_as, breaks_first, breaks_next, idle_come_all, on_err}

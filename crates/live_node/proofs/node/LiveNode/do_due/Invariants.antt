@@ -1,7 +1,7 @@
 use Rattle.std.proofs.Common.{◌≡◌, ◌≤◌, length}
 use Rattle.clnp_systems.specs.Stands as clnp_systems
-use Rattle.live_model.specs.Node.{Node, come_all}
-use Rattle.live_model.specs.Turn.{due_behind}
+use Rattle.clnp_machine.specs.LiveModel.Node.{Node, come_all}
+use Rattle.clnp_machine.specs.LiveModel.Turn.{due_behind}
 use Rattle.live_node.specs.Agenda.{asks_by, dues_of}
 use Rattle.live_node.specs.Plays.{PlaysTo, Stands}
 use Rattle.live_node.proofs.node.LiveNode.do_due.Given as goal

@@ -1,9 +1,9 @@
 -- What an event asks.
 use Rattle.std.proofs.Common.{◌≡◌, List, [], ap, refl, rules, sym}
 use Rattle.clnp_systems.specs.Stands as clnp_systems
-use Rattle.scenario_plan.specs.declared.event.Event.{Event}
-use Rattle.live_model.specs.Node.{Goes, come_all}
-use Rattle.live_model.specs.Turn.{asked_by}
+use Rattle.clnp_plan.specs.declared.scenario_plan.event.Event.{Event}
+use Rattle.clnp_machine.specs.LiveModel.Node.{Goes, come_all}
+use Rattle.clnp_machine.specs.LiveModel.Turn.{asked_by}
 use Rattle.live_node.proofs.Playing.{plays_as, plays_nothing}
 use Rattle.live_node.proofs.node.LiveNode.do_event.Goals as goal
 

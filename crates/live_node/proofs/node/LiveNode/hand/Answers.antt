@@ -4,8 +4,8 @@ use Rattle.std.proofs.lemmas.Result.{on_err_weaker, on_ok_weaker}
 use Rattle.hex.specs.Hex.{IsBytes}
 use Rattle.clnp_machine.specs.Content.{content_of}
 use Rattle.clnp_machine.specs.System.{number_behind}
-use Rattle.link_board.specs.Links.{CameFrame}
-use Rattle.live_model.specs.Node.{comes, frame_at, polls, sees}
+use Rattle.frame_links.specs.LinkBoard.Links.{CameFrame}
+use Rattle.clnp_machine.specs.LiveModel.Node.{comes, frame_at, polls, sees}
 use Rattle.live_node.proofs.Breaking.{breaks_as, breaks_nothing, idle_sees}
 use Rattle.live_node.proofs.Playing.{plays_as}
 use Rattle.live_node.proofs.Steps.{polls_stands}

@@ -2,8 +2,8 @@
 use Rattle.std.proofs.Common.{◌≡◌, ◌∙◌, ℕ, true, false, Some, None, take, ap, sym, subst}
 use Rattle.std.proofs.lemmas.Result.{on_err_weaker, on_ok_weaker}
 use Rattle.clnp_machine.specs.ClnpPlan.Configuration.{SystemConfiguration}
-use Rattle.link_board.specs.Links.{CameFrame}
-use Rattle.link_board.specs.Ports.{ChangesPort, Detaches, LooksAt, PortState, is_attached_at}
+use Rattle.frame_links.specs.LinkBoard.Links.{CameFrame}
+use Rattle.frame_links.specs.LinkBoard.Ports.{ChangesPort, Detaches, LooksAt, PortState, is_attached_at}
 use Rattle.live_node.proofs.Steps.{looks_broken, looks_empty, looks_lost, looks_nowhere, looks_seen, looks_seen_breaks}
 use Rattle.live_node.proofs.node.LiveNode.look_at.Goals as goal
 

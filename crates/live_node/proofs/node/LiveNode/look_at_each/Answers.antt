@@ -1,7 +1,7 @@
 -- One port after another.
 use Rattle.std.proofs.Common.{ℕ, ◌+◌, ◌-◌, List, ap, refl, sym, subst, ◌∙◌, arith}
 use Rattle.std.specs.List.{range_with_len}
-use Rattle.live_model.specs.Node.{Node, Outcome, looks_at, looks_at_each}
+use Rattle.clnp_machine.specs.LiveModel.Node.{Node, Outcome, looks_at, looks_at_each}
 use Rattle.live_node.specs.Plays.{PlaysTo}
 use Rattle.live_node.proofs.Breaking.{breaks_first, breaks_next, idle_looks, on_err}
 use Rattle.live_node.proofs.Playing.{plays_to_end, plays_to_next, plays_to_start}

@@ -1,7 +1,7 @@
 use Rattle.std.proofs.Common.{◌≡◌, ◌≤◌, ◌-◌, length}
 use Rattle.std.specs.List.{range_with_len}
 use Rattle.clnp_systems.specs.Stands as clnp_systems
-use Rattle.live_model.specs.Node.{Node, looks_at_each, ports_of}
+use Rattle.clnp_machine.specs.LiveModel.Node.{Node, looks_at_each, ports_of}
 use Rattle.live_node.specs.Plays.{PlaysTo, Stands}
 use Rattle.live_node.proofs.node.LiveNode.look_at_each.Given as goal
 

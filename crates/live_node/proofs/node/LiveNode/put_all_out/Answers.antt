@@ -1,7 +1,7 @@
 -- One output after another.
 use Rattle.std.proofs.Common.{◌+◌, List, drop, ap, refl, ◌∙◌, arith}
 use Rattle.clnp_machine.specs.System as machine
-use Rattle.live_model.specs.Node.{Node, Outcome, puts_all_out, puts_out}
+use Rattle.clnp_machine.specs.LiveModel.Node.{Node, Outcome, puts_all_out, puts_out}
 use Rattle.live_node.proofs.Breaking.{breaks_first, breaks_next, idle_outputs, on_err}
 use Rattle.live_node.proofs.Playing.{plays_to_end, plays_to_next, plays_to_start}
 use Rattle.live_node.proofs.Steps.{goes_next, goes_no_more}

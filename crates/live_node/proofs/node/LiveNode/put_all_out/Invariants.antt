@@ -1,6 +1,6 @@
 use Rattle.std.proofs.Common.{◌≡◌, ◌≤◌, List, drop, length}
 use Rattle.clnp_machine.specs.System as machine
-use Rattle.live_model.specs.Node.{Node, puts_all_out}
+use Rattle.clnp_machine.specs.LiveModel.Node.{Node, puts_all_out}
 use Rattle.live_node.specs.Outputs.{PutAllOut}
 use Rattle.live_node.specs.Plays.{PlaysTo, Stands}
 use Rattle.live_node.proofs.node.LiveNode.put_all_out.Given as goal

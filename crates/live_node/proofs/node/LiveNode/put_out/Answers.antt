@@ -2,7 +2,7 @@
 use Rattle.std.proofs.Common.{◌∙◌, List, ap}
 use Rattle.std.proofs.lemmas.Result.{on_err_weaker, on_ok_weaker}
 use Rattle.clnp_machine.specs.ClnpPlan.Configuration.{SystemConfiguration}
-use Rattle.live_model.specs.Node.{Outcome, Played}
+use Rattle.clnp_machine.specs.LiveModel.Node.{Outcome, Played}
 use Rattle.live_node.specs.Plays.{Breaks, Plays}
 use Rattle.live_node.proofs.Steps.{note_cut, puts_frame, puts_note}
 use Rattle.live_node.proofs.node.LiveNode.put_out.Goals as goal

@@ -4,9 +4,9 @@ use Rattle.std.proofs.lemmas.Result.{on_err_weaker, on_ok_weaker}
 use Rattle.clnp_machine.specs.ClnpPlan.Configuration.{SystemConfiguration}
 use Rattle.clnp_machine.specs.ClnpPlan.declared.config.Role.{Role}
 use Rattle.clnp_machine.specs.System.{Input, AsksToSend}
-use Rattle.scenario_plan.specs.Plan.{octets_of}
-use Rattle.live_model.specs.Node.{Goes, come_all}
-use Rattle.live_model.specs.Turn.{of_host}
+use Rattle.clnp_plan.specs.ScenarioPlan.Plan.{octets_of}
+use Rattle.clnp_machine.specs.LiveModel.Node.{Goes, come_all}
+use Rattle.clnp_machine.specs.LiveModel.Turn.{of_host}
 use Rattle.live_node.proofs.Breaking.{breaks_as}
 use Rattle.live_node.proofs.Playing.{plays_as, plays_nothing}
 use Rattle.live_node.proofs.node.LiveNode.send.Goals as goal

@@ -3,8 +3,8 @@ use Rattle.std.proofs.Common.{◌∙◌, List, [], ◌∷◌, refl}
 use Rattle.std.proofs.lemmas.Result.{on_err_weaker, on_ok_weaker}
 use Rattle.clnp_machine.specs.Content.{Unlabelled}
 use Rattle.clnp_machine.specs.System.{Input, AsksToSend}
-use Rattle.scenario_plan.specs.Plan.{octets_of}
-use Rattle.live_model.specs.Node.{come_all}
+use Rattle.clnp_plan.specs.ScenarioPlan.Plan.{octets_of}
+use Rattle.clnp_machine.specs.LiveModel.Node.{come_all}
 use Rattle.live_node.proofs.Breaking.{breaks_as, breaks_nothing, idle_come_all}
 use Rattle.live_node.proofs.Playing.{plays_as}
 use Rattle.live_node.proofs.Inputs.{comes_as}

@@ -5,10 +5,10 @@ use Rattle.std.specs.Io.KnownBytes.{Appends}
 use Rattle.clnp_machine.specs.ClnpPlan.Configuration.{SystemConfiguration}
 use Rattle.clnp_machine.specs.ClnpPlan.Journal.{Transmitted}
 use Rattle.clnp_systems.specs.Stands as clnp_systems
-use Rattle.link_board.specs.ClnpBase.Streams.{AppendsFront}
-use Rattle.link_board.specs.Ports.{ChangesPort, Detaches, PortState, SendsOn, is_attached_at}
-use Rattle.live_model.specs.Lines.{Says, node_line_text}
-use Rattle.live_model.specs.Node.{transmits}
+use Rattle.frame_links.specs.ClnpBase.Streams.{AppendsFront}
+use Rattle.frame_links.specs.LinkBoard.Ports.{ChangesPort, Detaches, PortState, SendsOn, is_attached_at}
+use Rattle.clnp_machine.specs.LiveModel.Lines.{Says, node_line_text}
+use Rattle.clnp_machine.specs.LiveModel.Node.{transmits}
 use Rattle.live_node.proofs.Breaking.{on_err}
 use Rattle.live_node.proofs.Steps.{past_end, sending_of, transmits_alone, transmits_broken, transmits_cut, transmits_lost, transmits_taken}
 use Rattle.live_node.proofs.node.LiveNode.transmit.Goals.{then-port-count-via-then-port-count, then-port-count-via-else-port-count+then-not-is_attached}

@@ -3,8 +3,8 @@ use Rattle.std.proofs.Common.{List, subst}
 use Rattle.std.proofs.lemmas.Result.{on_err_weaker, on_ok_weaker}
 use Rattle.clnp_machine.specs.ClnpPlan.Configuration.{SystemConfiguration}
 use Rattle.clnp_machine.specs.System.{Input}
-use Rattle.live_model.specs.Node.{Node, Outcome, come_all, looks_at_each, ports_of}
-use Rattle.live_model.specs.Turn.{comes_at}
+use Rattle.clnp_machine.specs.LiveModel.Node.{Node, Outcome, come_all, looks_at_each, ports_of}
+use Rattle.clnp_machine.specs.LiveModel.Turn.{comes_at}
 use Rattle.live_node.specs.Agenda.{dues_of}
 use Rattle.live_node.specs.Plays.{Breaks, Plays}
 use Rattle.live_node.proofs.Breaking.{breaks_first, breaks_then, idle_looks, on_err}

@@ -1,6 +1,6 @@
 use Rattle.std.proofs.Common.{◌∙◌, ap, refl}
 use Rattle.scenario.specs.Declarations.{Declarations, mtu_at}
-use Rattle.scenario_plan.specs.Plan.{Subnetwork}
+use Rattle.clnp_plan.specs.ScenarioPlan.Plan.{Subnetwork}
 use Rattle.scenario.proofs.Found.{found_is, none_is}
 use Rattle.scenario.proofs.declarations.Declared.mtu_at.Goals as goal
 

@@ -1,6 +1,6 @@
 use Rattle.std.proofs.Common.{sym, ◌∙◌}
 use Rattle.std.specs.Str.{bytes_eq}
-use Rattle.scenario_plan.specs.Plan.{Subnetwork}
+use Rattle.clnp_plan.specs.ScenarioPlan.Plan.{Subnetwork}
 use Rattle.clnp_plan.proofs.ClnpBase.Maps.{position-map}
 use Rattle.scenario.proofs.declarations.Declared.subnet_place.Goals as goal
 

@@ -1,5 +1,5 @@
 use Rattle.std.proofs.Common.{◌∙◌, ap}
-use Rattle.scenario_plan.specs.Standing.{Standing, takes_prefix}
+use Rattle.clnp_plan.specs.ScenarioPlan.Standing.{Standing, takes_prefix}
 use Rattle.scenario.proofs.Found.{found_is, none_is}
 use Rattle.scenario.proofs.standing.Standing.takes_prefix.Goals as goal
 

@@ -1,0 +1,13 @@
+pub mod Outputs
+pub mod Totals
+pub mod Vectors
+pub mod Packs
+pub mod RoundTrip
+pub mod Skipping
+pub mod ToldLines
+pub mod Steps
+pub mod Answering
+pub mod FrameLines
+pub mod Makes
+pub mod Worked
+pub mod WrittenLines

@@ -1,0 +1,13 @@
+pub mod Faults
+pub mod Show
+pub mod Check
+pub mod Pack
+pub mod RoundTrip
+pub mod Stations
+pub mod Lines
+pub mod Called
+pub mod Underway
+pub mod Serves
+pub mod Make
+pub mod ReadLine
+pub mod Laws

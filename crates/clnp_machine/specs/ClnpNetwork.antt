@@ -1,0 +1,5 @@
+pub mod LabelledNetwork
+pub mod Run
+pub mod Clocks
+pub mod Safe
+pub mod Changed

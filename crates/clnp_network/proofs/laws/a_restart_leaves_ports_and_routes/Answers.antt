@@ -1,5 +1,0 @@
-use Rattle.clnp_network.proofs.Changing.{restart_keeps}
-use Rattle.clnp_network.proofs.laws.a_restart_leaves_ports_and_routes.Goals as goal
-
-pub returns : goal.returns
-returns c subnets limits w place = restart_keeps w place

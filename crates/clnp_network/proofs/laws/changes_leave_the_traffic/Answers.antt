@@ -1,5 +1,0 @@
-use Rattle.clnp_network.proofs.Changing.{changes_keep}
-use Rattle.clnp_network.proofs.laws.changes_leave_the_traffic.Goals as goal
-
-pub returns : goal.returns
-returns c subnets limits w = changes_keep w subnets limits

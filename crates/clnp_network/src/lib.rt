@@ -1,9 +1,0 @@
-//! The simulated network: its moves, the runs of scenarios and their journals, and what safe runs are.
-#![tactic(auto)]
-
-pub mod laws;
-
-/// Scenarios: what they say, their events and the moves of these.
-pub mod scenarios {
-    pub use scenario_plan::{Body, Event, Move, Scenario, Subnet};
-}

@@ -1,9 +1,0 @@
-use Rattle.std.proofs.Common.{sym}
-use Rattle.clnp_options.proofs.Places.{place_of_reason-found, place_of_reason-none}
-use Rattle.clnp_options.proofs.judge.place_of_reason.Goals as goal
-
-pub returns-in-Some : goal.returns-in-Some
-returns-in-Some c = rw c.if-not-is_report.false (sym (place_of_reason-found _ _ _ c.in-Some.ensures))
-
-pub returns-in-None : goal.returns-in-None
-returns-in-None c = rw c.if-not-is_report.false (sym (place_of_reason-none _ _ c.in-None.ensures))

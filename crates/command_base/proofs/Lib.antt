@@ -1,3 +1,0 @@
-pub use Rattle.clnp_base.proofs as ClnpBase
-pub mod Fronts
-pub mod ByLine

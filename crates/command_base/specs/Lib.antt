@@ -1,7 +1,0 @@
-pub use Rattle.clnp_base.specs as ClnpBase
-pub mod Codes
-pub mod Exit
-pub mod Output
-pub mod ByLine
-pub mod ComesAs
-pub mod Reading

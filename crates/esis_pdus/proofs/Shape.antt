@@ -1,2 +1,0 @@
--- A header as its nine octets and what follows them, with a checksum and without: as other PDUs have it.
-pub use Rattle.pdu_header.proofs.Shape.{nine_bare, laid_out, same_layout, sealing_again, bare_again, sealed_layout, sealed_is, pair_is_zero, pair_is_used, pair_again, pair_of_octets, right_from_test, unused_passes, sealed_passes, HasHeader, good_size, length_of_header, octet_of_header}

@@ -1,8 +1,0 @@
-use Rattle.esis_pdus.proofs.FieldFacts.{filled_count, filled_octets}
-use Rattle.esis_pdus.proofs.addresses.AddressList.parts.Goals as goal
-
-pub returns-clause-count : goal.returns-clause-count
-returns-clause-count c = filled_count c.self.inside.left _ _ c.self.invariant c.self.view_is
-
-pub returns-clause-octets : goal.returns-clause-octets
-returns-clause-octets c = filled_octets c.self.inside.left _ _ c.self.invariant c.self.view_is

@@ -1,5 +1,0 @@
-use Rattle.esis_tables.proofs.Ended.{gone_rise, gone_those}
-use Rattle.esis_tables.proofs.laws.gone_are_those_that_ended.Goals as goal
-
-pub returns : goal.returns
-returns c = record { rising = gone_rise; those = gone_those }

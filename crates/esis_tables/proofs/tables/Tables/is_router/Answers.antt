@@ -1,8 +1,0 @@
-use Rattle.std.proofs.Common.{◌∙◌}
-use Rattle.esis_tables.specs.declared.fact.TableKind.TheVariants.{Is}
-use Rattle.esis_tables.proofs.Standing.{router_is}
-use Rattle.esis_tables.proofs.tables.Tables.is_router.Goals as goal
-
-pub returns : goal.returns
-returns c facts before left stands le =
-    c.is_held_at.ensures ∙ router_is Is c.args.self.now.routers facts before c.args.now stands.routers_left stands.routers le c.args.snpa.now

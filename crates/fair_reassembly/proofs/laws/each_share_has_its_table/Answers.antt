@@ -1,5 +1,0 @@
-use Rattle.fair_reassembly.proofs.Places.{has_its_table}
-use Rattle.fair_reassembly.proofs.laws.each_share_has_its_table.Goals as goal
-
-pub returns : goal.returns
-returns c = λ sources i source distinct there. has_its_table sources i source distinct there

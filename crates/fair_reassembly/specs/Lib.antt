@@ -1,7 +1,0 @@
-pub use Rattle.reassembly.specs as Reassembly
-pub mod Coming
-pub mod Tables
-pub mod Calls
-pub mod Classes
-pub mod Behind
-pub mod Claims

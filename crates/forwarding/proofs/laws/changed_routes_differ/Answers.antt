@@ -1,8 +1,0 @@
-use Rattle.forwarding.proofs.Setting.{AreDistinct-set_in, AreDistinct-without}
-use Rattle.forwarding.proofs.laws.changed_routes_differ.Goals as goal
-
-pub returns-clause-set : goal.returns-clause-set
-returns-clause-set c = AreDistinct-set_in
-
-pub returns-clause-removed : goal.returns-clause-removed
-returns-clause-removed c = AreDistinct-without

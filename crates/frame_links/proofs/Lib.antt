@@ -1,0 +1,3 @@
+pub use Rattle.pdus.proofs.NsapFacts as Nsap
+pub mod LinkBoard
+pub mod PcapFrames

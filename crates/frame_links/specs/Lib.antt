@@ -1,0 +1,3 @@
+pub use Rattle.pdus.specs.ClnpBase
+pub mod LinkBoard
+pub mod PcapFrames

@@ -1,8 +1,0 @@
-pub use Rattle.nsap.specs.ClnpBase
-pub mod Links
-pub mod Memory
-pub mod Outbox
-pub mod Ports
-pub mod Ends
-pub mod Words
-pub mod Recording

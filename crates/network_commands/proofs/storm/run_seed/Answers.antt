@@ -1,8 +1,0 @@
-use Rattle.std.proofs.Common.{subst}
-use Rattle.clnp_world.specs.ScenarioPlan.Plan.{Plan}
-use Rattle.network_commands.specs.Counting.{SumOf}
-use Rattle.network_commands.proofs.storm.run_seed.Goals as goal
-
-pub returns-in-Ok-clause-sums : goal.returns-in-Ok-clause-sums
-returns-in-Ok-clause-sums g c =
-    subst (λ (plan : Plan). SumOf c.args.seed plan c.sum_up.result) c.in-Ok.ensures c.sum_up.ensures.sums

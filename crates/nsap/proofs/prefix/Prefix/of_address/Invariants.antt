@@ -1,6 +1,0 @@
-use Rattle.std.proofs.Common.{◌≡◌, take}
-use Rattle.nsap.specs.Prefix.{digits_of}
-use Rattle.nsap.proofs.prefix.Prefix.of_address.Given as goal
-
-abbrev pub invariant-loop-octet : goal.invariant-loop-octet
-invariant-loop-octet l = l.digits ≡ digits_of (take l.octet-index l.octet-items)

@@ -1,8 +1,0 @@
-use Rattle.pcap_frames.proofs.MadeFiles.{made_frames_again, made_is_file}
-use Rattle.pcap_frames.proofs.laws.a_made_file_gives_its_frames_again.Goals as goal
-
-pub returns-clause-file : goal.returns-clause-file
-returns-clause-file c = made_is_file
-
-pub returns-clause-frames : goal.returns-clause-frames
-returns-clause-frames c = made_frames_again

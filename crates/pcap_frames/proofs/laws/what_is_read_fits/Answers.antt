@@ -1,8 +1,0 @@
-use Rattle.pcap_frames.proofs.Following.{read_bytes, read_fits}
-use Rattle.pcap_frames.proofs.laws.what_is_read_fits.Goals as goal
-
-pub returns-clause-fits : goal.returns-clause-fits
-returns-clause-fits c = read_fits
-
-pub returns-clause-bytes : goal.returns-clause-bytes
-returns-clause-bytes c = read_bytes

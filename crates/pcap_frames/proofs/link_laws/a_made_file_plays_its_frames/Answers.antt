@@ -1,8 +1,0 @@
-use Rattle.pcap_frames.proofs.MadeFrames.{made_frames_come, made_is_read}
-use Rattle.pcap_frames.proofs.link_laws.a_made_file_plays_its_frames.Goals as goal
-
-pub returns-clause-read : goal.returns-clause-read
-returns-clause-read c = made_is_read
-
-pub returns-clause-frames : goal.returns-clause-frames
-returns-clause-frames c = made_frames_come

@@ -1,9 +1,0 @@
-use Rattle.pdu_header.proofs.Changed.{header_length-is}
-use Rattle.pdu_header.proofs.Written.{length-header}
-use Rattle.pdu_header.proofs.laws.a_header_has_its_length.Goals as goal
-
-pub returns-clause-header : goal.returns-clause-header
-returns-clause-header c = length-header
-
-pub returns-clause-parts : goal.returns-clause-parts
-returns-clause-parts c = header_length-is

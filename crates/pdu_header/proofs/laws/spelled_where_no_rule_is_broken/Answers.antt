@@ -1,8 +1,0 @@
-use Rattle.pdu_header.proofs.Frames.{is_front, unbroken_where_spelled}
-use Rattle.pdu_header.proofs.laws.spelled_where_no_rule_is_broken.Goals as goal
-
-pub returns : goal.returns
-returns c = record {
-  spelled = unbroken_where_spelled;
-  protocol = λ frame v rest h. (is_front frame v rest h).protocol;
-}

@@ -1,0 +1,14 @@
+pub mod Again
+pub mod Claims
+pub mod Cutting
+pub mod Given
+pub mod Quotients
+pub mod Segments
+pub mod Tiles
+pub mod Worked
+pub mod Reason
+pub mod Lengths
+pub mod Accepted
+pub mod FirstOctets
+pub mod Requests
+pub mod ReplyLengths

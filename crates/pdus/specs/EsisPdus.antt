@@ -1,0 +1,11 @@
+pub mod Fields
+pub mod Filled
+pub mod Timer
+pub mod Value
+pub mod Spelling
+pub mod Grammar
+pub mod Rules
+pub mod Reading
+pub mod View
+pub mod Making
+pub mod Kinds

@@ -1,0 +1,14 @@
+pub mod Kinds
+pub mod Layout
+pub mod Value
+pub mod Segment
+pub mod Spelling
+pub mod Grammar
+pub mod Rules
+pub mod Reading
+pub mod View
+pub mod Parts
+pub mod Headers
+pub mod Encoding
+pub mod Account
+pub mod Table

@@ -1,2 +1,0 @@
--- Names that crates above still cite, from clnp_base.
-pub use Rattle.nsap.proofs.ClnpBase.Sums.{length_filter, sum_filter}

@@ -1,2 +1,0 @@
--- Names that crates above still cite, from Keys.
-pub use Rattle.reassembly.proofs.Keys.{same_key-refl, same_key-true as same_from_same_key}

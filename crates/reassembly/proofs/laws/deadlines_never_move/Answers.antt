@@ -1,5 +1,0 @@
-use Rattle.reassembly.proofs.LawBuffers.{stays_with_deadline}
-use Rattle.reassembly.proofs.laws.deadlines_never_move.Goals as goal
-
-pub returns : goal.returns
-returns g c = λ limits now arrival buffers key. stays_with_deadline limits now arrival buffers key

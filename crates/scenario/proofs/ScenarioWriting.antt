@@ -1,0 +1,13 @@
+pub mod Written
+pub mod WrittenEvents
+pub mod WrittenText
+pub mod WrittenSettings
+pub mod WrittenPrefixes
+pub mod Stages
+pub mod DeclaredLines
+pub mod WrittenDeclarations
+pub mod ReadBack
+pub mod Seeded
+pub mod Migrating
+pub mod Pieces
+pub mod Worked

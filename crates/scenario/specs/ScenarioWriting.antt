@@ -1,0 +1,3 @@
+pub mod Canonical
+pub mod Seeds
+pub mod Migration

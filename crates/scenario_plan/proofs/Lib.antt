@@ -1,3 +1,0 @@
-mod Patterns
-pub mod Migrated
-pub mod WorkedPlans

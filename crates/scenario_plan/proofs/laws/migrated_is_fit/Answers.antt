@@ -1,8 +1,0 @@
-use Rattle.scenario_plan.proofs.Migrated.{migrated_fit}
-use Rattle.scenario_plan.proofs.laws.migrated_is_fit.Goals as goal
-
-pub returns-clause-fit : goal.returns-clause-fit
-returns-clause-fit c = migrated_fit
-
-pub returns-clause-together : goal.returns-clause-together
-returns-clause-together c plan fit one = fit.together one

@@ -1,5 +1,0 @@
-pub use Rattle.clnp_plan.specs as ClnpPlan
-pub mod Names
-pub mod Standing
-pub mod Plan
-pub mod Migrated

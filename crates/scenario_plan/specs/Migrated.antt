@@ -1,6 +1,0 @@
--- Scenarios of version 1 in version 2.
-use Rattle.scenario_plan.specs.Plan.{Plan}
-
--- the same scenario in version 2
-abbrev pub migrated : Plan → Plan
-migrated plan = record plan { version = 2 }

@@ -1,7 +1,0 @@
-use Rattle.std.proofs.Common.{◌≡◌, ◌-◌, ◌∷◌, ◌++◌}
-use Rattle.scenario_writing.specs.Seeds.{rounds}
-use Rattle.scenario.specs.ScenarioPlan.declared.event.Event.TheVariants.{Settle, Tick}
-use Rattle.scenario_writing.proofs.seed.events.Given as goal
-
-abbrev pub invariant-loop : goal.invariant-loop
-invariant-loop l = l.events.items ++ (rounds (300 - l.counter) l.state).0 ≡ Tick 1 ∷ Settle 40 ∷ (rounds 300 l.seed).0

@@ -1,8 +1,0 @@
-use Rattle.std.proofs.Common.{◌≡◌, ◌++◌, take}
-use Rattle.std.specs.List.{flat_map}
-use Rattle.scenario_writing.specs.Canonical.{route_text}
-use Rattle.scenario_writing.proofs.writer.push_routes.Given as goal
-
-abbrev pub invariant-loop-route : goal.invariant-loop-route
-invariant-loop-route l =
-    l.out.items ≡ l.fn.out.items ++ flat_map (route_text l.name) (take l.route-index l.routes)

@@ -1,8 +1,0 @@
-use Rattle.std.proofs.Common.{◌≡◌, ◌++◌, take}
-use Rattle.std.specs.List.{flat_map}
-use Rattle.scenario_writing.specs.Canonical.{subnet_text}
-use Rattle.scenario_writing.proofs.writer.push_subnets.Given as goal
-
-abbrev pub invariant-loop-subnet : goal.invariant-loop-subnet
-invariant-loop-subnet l =
-    l.out.items ≡ l.fn.out.items ++ flat_map subnet_text (take l.subnet-index l.subnets)

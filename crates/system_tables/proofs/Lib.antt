@@ -1,0 +1,4 @@
+pub mod ReassemblyFacts
+pub mod FairReassembly
+pub mod EsisTables
+pub mod ForwardingFacts

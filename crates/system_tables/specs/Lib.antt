@@ -1,0 +1,4 @@
+pub mod Reassembly
+pub mod FairReassembly
+pub mod EsisTables
+pub mod Forwarding
