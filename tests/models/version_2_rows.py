@@ -2,7 +2,7 @@
 """Texts of version 1, which run in version 2 as they did, beside the plain models; and why an identifier rests as long as it does
 where clocks stand apart. What else texts of version 2 say is in tests/models/version_2_texts.py.
 
-Each wanted journal was written from the rules. The worked examples of version 2 stand in crates/worked_examples/data, with which
+Each wanted journal was written from the rules. The worked examples of version 2 stand in tests/worked/, with which
 tests/models/worked_examples.py compares the models.
 
 usage: tests/models/version_2_rows.py

@@ -1,9 +1,9 @@
 #!/usr/bin/env python3
-"""Compares the plain models with the worked examples of crates/worked_examples/data that `sim`, `trace` and `migrate` read: the
+"""Compares the plain models with the worked examples of tests/worked/ that `sim`, `trace` and `migrate` read: the
 exit number, the lines that a case compares of the output, and the first line on standard error. So what a case wants is tried
 before the program is built, and both say the same of each text.
 
-usage: tests/models/worked_examples.py [FILE ..], files of cases; without one they are those that data/index names.
+usage: tests/models/worked_examples.py [FILE ..], files of cases; without one they are those that tests/worked/index names.
 """
 import os
 import sys
@@ -11,7 +11,7 @@ import sys
 from network_model import Network
 from scenario_model import CODE_NAMES, Text, migrate, read
 
-DATA = os.path.join(os.path.dirname(os.path.abspath(__file__)), "..", "..", "crates", "worked_examples", "data")
+DATA = os.path.join(os.path.dirname(os.path.abspath(__file__)), "..", "worked")
 
 
 class Case:

@@ -14,6 +14,8 @@ mod host_calls;
 #[cfg(test)]
 mod live_captured;
 #[cfg(test)]
+mod live_cases;
+#[cfg(test)]
 mod live_clock;
 #[cfg(test)]
 mod live_noting;
