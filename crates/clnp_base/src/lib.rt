@@ -18,7 +18,7 @@ pub use copying::copy_over;
 pub use digits::DigitValues;
 pub use inline::InlineOctets;
 pub use memory::{MemSink, MemSource};
-pub use octets::{NoMemory, Octets};
+pub use octets::{NoMemory, Octets, SharedOctets};
 pub use put::{HexFault, push, push_decimal, push_hex, push_number, push_unhex};
 pub use standard::{StdSink, StdSource};
 pub use streams::{Failed, ReadStop, Sink, Source, read_all, write_all};

@@ -1,7 +1,9 @@
 ghost use Rattle.std.specs.Prelude.{◌≡◌, IfOk};
+ghost use Rattle.std.specs.Rc.{rc_slice_items};
 
 use std::alloc::{AllocError, AllocFailed, Global};
 use std::marker::Model;
+use std::rc::RcSlice;
 
 /// Memory was refused.
 #[derive(Clone, Copy, Debug, PartialEq, Eq)]
@@ -77,4 +79,56 @@ impl Eq for Octets {
     ghost use Rattle.std.specs.Cmp.Lexicographic.{nat_list_eq_equiv};
 
     ghost laws = { nat_list_eq_equiv };
+}
+
+/// Octets in order with several owners, none of whom changes them. A contract sees their list.
+#[derive(Drop)]
+pub struct SharedOctets {
+    octets: RcSlice<u8>,
+}
+
+impl Model for SharedOctets {
+    ghost use Rattle.std.specs.Prelude.{List, ℕ};
+    ghost use Rattle.std.specs.Rc.{rc_slice_items};
+
+    ghost Value = { List ℕ };
+
+    ghost view = { λ o. rc_slice_items o.octets };
+}
+
+impl SharedOctets {
+    /// These octets, with no copy.
+    ///
+    /// # Errors
+    ///
+    /// `NoMemory`.
+    pub fn from_vec(octets: Vec<u8>) -> Result<SharedOctets, NoMemory>
+        ensures { IfOk result (λ shared. shared ≡ octets.items) }
+    {
+        match RcSlice::from_vec(octets) {
+            Ok(octets) => Ok(SharedOctets { octets }),
+            Err(_) => Err(NoMemory),
+        }
+    }
+
+    /// The octets.
+    pub fn as_bytes(&self) -> &[u8]
+        ensures { result.now ≡ self.now }
+    {
+        self.octets.as_slice()
+    }
+
+    /// The octets for a further owner.
+    ///
+    /// # Errors
+    ///
+    /// `NoMemory`, where a further owner is refused.
+    pub fn share(&self) -> Result<RcSlice<u8>, NoMemory>
+        ensures { IfOk result (λ shared. rc_slice_items shared ≡ self.now) }
+    {
+        match self.octets.clone() {
+            Ok(octets) => Ok(octets),
+            Err(_) => Err(NoMemory),
+        }
+    }
 }

@@ -33,7 +33,7 @@ pub mod esis {
 
 /// Octets and text.
 pub mod base {
-    pub use clnp_plan::base::{NoMemory, Octets};
+    pub use clnp_plan::base::{NoMemory, Octets, SharedOctets};
 }
 
 /// The echo function.

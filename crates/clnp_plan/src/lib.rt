@@ -37,8 +37,8 @@ pub mod clnp {
 /// Octets and text.
 pub mod base {
     pub use pdus::pdu_header::base::{
-        DigitValues, InlineOctets, NoMemory, Octets, decimal, is_skipped, lines, next_line,
-        next_word, push, same, words,
+        DigitValues, InlineOctets, NoMemory, Octets, SharedOctets, decimal, is_skipped, lines,
+        next_line, next_word, push, same, words,
     };
 }
 

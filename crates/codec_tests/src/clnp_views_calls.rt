@@ -1,6 +1,7 @@
 ghost use Rattle.std.specs.Prelude.{◌≤◌, length};
 
 use captures::base::NoMemory;
+use pdus::nsap::base::SharedOctets;
 use pdus::pdu_header::views::{Frame, View};
 use std::alloc::Global;
 
@@ -43,6 +44,15 @@ fn takes_octets_over(rt: HostRuntime) {
     let octets = Vec::from_slice(rt.alloc(), b"header, data").expect(&rt, "memory");
     let frame = Frame::from_vec(octets).expect(&rt, "memory");
     assert!(rt; is_seen(frame.into_view(), b"header, data"));
+}
+
+#[test]
+fn shares_octets(rt: HostRuntime) {
+    let octets = Vec::from_slice(rt.alloc(), b"header, data").expect(&rt, "memory");
+    let octets = SharedOctets::from_vec(octets).expect(&rt, "memory");
+    let frame = Frame::of_shared(&octets).expect(&rt, "memory");
+    assert!(rt; is_seen(frame.into_view(), b"header, data"));
+    assert!(rt; octets.as_bytes() == b"header, data".as_slice());
 }
 
 /// A header of nine octets, as its second octet says.

@@ -19,8 +19,8 @@ pub use crate::nsap::target::Target;
 /// Octets and text.
 pub mod base {
     pub use clnp_base::{
-        DigitValues, Failed, HexFault, InlineOctets, NoMemory, Octets, copy_over, decimal,
-        is_skipped, lines, next_line, next_word, push, push_decimal, push_hex, push_number,
-        push_unhex, same, words,
+        DigitValues, Failed, HexFault, InlineOctets, NoMemory, Octets, SharedOctets, copy_over,
+        decimal, is_skipped, lines, next_line, next_word, push, push_decimal, push_hex,
+        push_number, push_unhex, same, words,
     };
 }

@@ -25,8 +25,9 @@ pub use report::reportable;
 /// Octets and text.
 pub mod base {
     pub use crate::nsap::base::{
-        DigitValues, HexFault, InlineOctets, NoMemory, Octets, copy_over, decimal, is_skipped,
-        lines, next_line, next_word, push, push_decimal, push_hex, push_number, same, words,
+        DigitValues, HexFault, InlineOctets, NoMemory, Octets, SharedOctets, copy_over, decimal,
+        is_skipped, lines, next_line, next_word, push, push_decimal, push_hex, push_number, same,
+        words,
     };
 }
 

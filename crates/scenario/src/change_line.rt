@@ -12,7 +12,7 @@ use crate::word::{
     two_words, wanted,
 };
 use clnp_plan::SystemConfig;
-use clnp_plan::base::same;
+use clnp_plan::base::{DigitValues, same};
 use clnp_plan::routing::Route;
 use clnp_plan::scenario_plan::{Event, Subnet};
 
@@ -22,6 +22,8 @@ pub(crate) struct Settled<'a> {
     pub(crate) version: u8,
     pub(crate) subnets: &'a [Subnet],
     pub(crate) systems: &'a [SystemConfig],
+    /// What each character is worth as a hexadecimal digit.
+    pub(crate) values: &'a DigitValues,
 }
 
 /// Whether the system at a place has a port of this number.

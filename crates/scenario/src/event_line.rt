@@ -18,7 +18,7 @@ use crate::word::{
     address_word, data_word, first_four, four_words, frame_word, is_name, is_one_at_most,
     number_word, one_word, snpa_word, target_word, two_words, wanted,
 };
-use clnp_plan::base::{next_word, same};
+use clnp_plan::base::{DigitValues, next_word, same};
 use clnp_plan::scenario_plan::{Event, KeptAsk, Subnet};
 use clnp_plan::{Role, SystemConfig};
 use std::alloc::Global;
@@ -286,7 +286,12 @@ const MOST_FRAME: usize = 70_000;
 
 /// `SUBNET FROM TO HEX`, behind `inject`.
 #[tactic(auto, unfolding(crate::specs::Events::inject_line))]
-fn inject_line(alloc: Global, subnets: &[Subnet], line: &[u8]) -> Result<Event, LineFault>
+fn inject_line(
+    alloc: Global,
+    values: &DigitValues,
+    subnets: &[Subnet],
+    line: &[u8],
+) -> Result<Event, LineFault>
     requires { length subnets.now ≤ 64 }
     ensures { let reading = inject_line (map (λ (subnet : Subnetwork). subnet.name) subnets.now) (words_of line.now) in
         MatchResult result (λ event. reading ≡ Ok event) (λ fault. Faults fault reading) }
@@ -297,7 +302,7 @@ fn inject_line(alloc: Global, subnets: &[Subnet], line: &[u8]) -> Result<Event, 
     let subnet = subnet_word(subnets, subnet)?;
     let from = snpa_word(from)?;
     let to = target_word(to)?;
-    let octets = frame_word(alloc, octets)?;
+    let octets = frame_word(alloc, values, octets)?;
     wanted(octets.as_bytes().len() <= MOST_FRAME, Code::Count)?;
     Ok(Event::Inject {
         subnet,
@@ -378,7 +383,7 @@ pub(crate) fn event_line(
         };
     }
     if same(keyword, b"inject") {
-        return inject_line(alloc, settled.subnets, line);
+        return inject_line(alloc, settled.values, settled.subnets, line);
     }
     if settled.version == 1 {
         return Err(LineFault::Broken(Code::Syntax));

@@ -22,7 +22,7 @@ use crate::standing::Standing;
 use crate::system::System;
 use crate::word::is_line_of;
 use clnp_plan::SystemConfig;
-use clnp_plan::base::{is_skipped, next_line, same};
+use clnp_plan::base::{DigitValues, is_skipped, next_line, same};
 use clnp_plan::scenario_plan::{Event, Scenario, Subnet};
 use std::alloc::{AllocError, Global};
 
@@ -259,6 +259,7 @@ fn events_of(
     let mut events = Vec::new(alloc);
     let mut number = number;
     let mut counts = Counts::nothing();
+    let values = DigitValues::new();
     let mut standing = Standing::of(alloc, skew, systems)?;
     let mut left = text;
     while let Some((line, rest)) = next_line(left) {
@@ -276,6 +277,7 @@ fn events_of(
             version,
             subnets,
             systems,
+            values: &values,
         };
         let event = event_for(alloc, links, settled, &standing, at, counts, line)?;
         counts = counts.with(&event);

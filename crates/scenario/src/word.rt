@@ -9,7 +9,7 @@ ghost use Rattle.scenario.specs.declared.code.Code.TheVariants as bad;
 
 use crate::code::Code;
 use crate::fault::LineFault;
-use clnp_plan::base::{Octets, decimal, next_word, same};
+use clnp_plan::base::{DigitValues, Octets, SharedOctets, decimal, next_word, same};
 use clnp_plan::nsaps::{Address, Prefix, Snpa, Target};
 use clnp_plan::options::OptionList;
 use clnp_plan::scenario_plan::Body;
@@ -293,15 +293,28 @@ pub(crate) fn target_word(word: &[u8]) -> Result<Target, Code>
     Ok(Target::System(snpa))
 }
 
-/// The octets that an even number of hexadecimal digits spells.
-pub(crate) fn frame_word(alloc: Global, word: &[u8]) -> Result<Octets, LineFault>
+/// The octets that an even number of hexadecimal digits spells. A text may have many such words, so what each character is
+/// worth is known before.
+pub(crate) fn frame_word(
+    alloc: Global,
+    values: &DigitValues,
+    word: &[u8],
+) -> Result<SharedOctets, LineFault>
     ensures { let reading = frame_word word.now in
         MatchResult result (λ octets. reading ≡ Ok octets) (λ fault. Faults fault reading) }
 {
-    match hex::decode(alloc, word) {
-        Ok(octets) => Ok(Octets::from_vec(octets)),
-        Err(hex::FromHexError::OutOfMemory) => Err(LineFault::NoMemory),
-        Err(_) => Err(LineFault::Broken(Code::Address)),
+    if word.len() % 2 != 0 {
+        return Err(LineFault::Broken(Code::Address));
+    }
+    let Ok(mut octets) = Vec::from_elem(alloc, 0, word.len() / 2) else {
+        return Err(LineFault::NoMemory);
+    };
+    if !values.decode(word, &mut octets) {
+        return Err(LineFault::Broken(Code::Address));
+    }
+    match SharedOctets::from_vec(octets) {
+        Ok(octets) => Ok(octets),
+        Err(_) => Err(LineFault::NoMemory),
     }
 }
 

@@ -3,7 +3,7 @@ ghost use Rattle.std.specs.List.{range_with_len};
 ghost use Rattle.clnp_plan.specs.ScenarioPlan.Plan.{moves_of, octets_of};
 ghost use Rattle.clnp_plan.specs.declared.scenario_plan.event.Body.TheVariants.{Pattern};
 
-use crate::base::{NoMemory, Octets};
+use crate::base::{NoMemory, Octets, SharedOctets};
 use crate::nsaps::{Address, Prefix, Snpa, Target};
 use crate::routing::Route;
 use crate::scenario_plan::kept_ask::KeptAsk;
@@ -114,7 +114,7 @@ pub enum Event {
         subnet: u8,
         from: Snpa,
         to: Target,
-        octets: Octets,
+        octets: SharedOctets,
     },
     /// A subnetwork takes frames of so many octets from now on, and so do all ports on it.
     Mtu {

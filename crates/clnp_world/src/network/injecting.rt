@@ -7,7 +7,7 @@ ghost use Rattle.clnp_world.specs.Parts.{Follows, Holds};
 use super::Network;
 use crate::copy::{FrameCopy, Origin};
 use crate::lines::{Line, LineSink};
-use clnp_machine::base::{NoMemory, Octets};
+use clnp_machine::base::{NoMemory, SharedOctets};
 use clnp_machine::clnp_network::scenarios::Subnet;
 use clnp_machine::nsaps::{Snpa, Target};
 use clnp_machine::views::Frame;
@@ -22,7 +22,7 @@ impl Network {
         subnet: u8,
         from: Snpa,
         to: Target,
-        octets: &Octets,
+        octets: &SharedOctets,
         lines: &mut L,
     ) -> Result<(), NoMemory>
         requires bytes { IsBytes octets.now }
@@ -44,7 +44,7 @@ impl Network {
             target: &to,
         };
         lines.take(alloc, &line)?;
-        let frame = Frame::copy(alloc, octets.as_bytes())?;
+        let frame = Frame::of_shared(octets)?;
         self.push_copy(FrameCopy {
             subnet,
             sender: from,

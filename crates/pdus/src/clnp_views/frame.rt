@@ -5,7 +5,7 @@ ghost use Rattle.pdus.specs.ClnpViews.Extent.{seen, whole};
 ghost use Rattle.pdus.specs.ClnpViews.Parted.{IsFront, IsShortHeader};
 
 use crate::clnp_views::view::View;
-use clnp_base::{InlineOctets, NoMemory};
+use clnp_base::{InlineOctets, NoMemory, SharedOctets};
 use std::alloc::Global;
 use std::marker::Model;
 use std::rc::RcSlice;
@@ -70,6 +70,18 @@ impl Frame {
             Ok(octets) => Ok(Frame::of(octets)),
             Err(_) => Err(NoMemory),
         }
+    }
+
+    /// The frame of octets that are shared, and so not copied.
+    ///
+    /// # Errors
+    ///
+    /// `NoMemory`, where a further owner is refused.
+    pub fn of_shared(octets: &SharedOctets) -> Result<Frame, NoMemory>
+        ensures { IfOk result (λ frame. frame ≡ octets.now) }
+    {
+        let octets = octets.share()?;
+        Ok(Frame::of(octets))
     }
 
     /// The frame of shared octets.

@@ -1,5 +1,5 @@
 -- The frame becomes the next copy, and its line is written.
-use Rattle.std.proofs.Common.{◌≡◌, ◌+◌, ◌∙◌, ℕ, [], ◌∷◌, List, Some, subst, arith, refl}
+use Rattle.std.proofs.Common.{◌≡◌, ◌+◌, ℕ, [], ◌∷◌, List, Some, subst, arith, refl}
 use Rattle.std.specs.Prelude.{slice_get}
 use Rattle.std.proofs.lemmas.Result.{on_ok_weaker}
 use Rattle.clnp_machine.specs.ClnpPlan.Journal.{Injected}
@@ -25,6 +25,6 @@ returns g c =
     injects_there c.octets_have_a_content.ensures.frame c.octets_have_a_content.ensures.carried old c.push_copy.new.self (g.L.LineSink.taken c.args.lines.now) (g.L.LineSink.taken c.take.new.self) c.args.subnets.now c.args.subnet c.len.result
     declared c.args.from c.args.to c.args.octets.now there c.requires.bytes c.requires.few (omega (arith, c.len.ensures, old.copies.ok.0)) line
     (subst (λ (frame : List ℕ). PutsCopies old c.push_copy.new.self (outside_copy c.args.subnet c.args.from c.args.to old.clock frame ∷ []))
-    (c.in_ok-frame.ensures ∙ c.as_bytes.ensures) put)
+    c.in_ok-frame.ensures put)
     c.push_copy.ensures.others)
     c.push_copy.ensures.puts
