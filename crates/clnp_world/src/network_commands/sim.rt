@@ -20,8 +20,10 @@ use clnp_base::command_base::{Status, flush, flush_full};
 use clnp_machine::system_plan::Telling;
 use scenario::scenario_writing::scenarios::{ScenarioRefusal, read};
 use std::alloc::Global;
+use std::mem;
 
-/// Writes the journal, or the trace, of the scenario that a text is.
+/// Writes the journal, or the trace, of the scenario that a text is. The memory of the scenario and of its network stays taken
+/// until the process ends.
 pub fn sim<K: Sink>(alloc: Global, telling: Telling, text: &[u8], sink: &mut K) -> Status
     requires { length text.now ≤ most_input }
     ensures later { K.faults sink.old ≤ K.faults sink.new }
@@ -31,7 +33,7 @@ pub fn sim<K: Sink>(alloc: Global, telling: Telling, text: &[u8], sink: &mut K) 
     few_lines();
     scenario::scenario_writing::laws::accepted_is_fit();
     match read(alloc, text) {
-        Ok(scenario) => match play(alloc, &scenario, telling, sink) {
+        Ok(scenario) => match play(alloc, scenario, telling, sink) {
             Ok(()) => Status::Done,
             Err(stop) => stop.status(),
         },
@@ -48,17 +50,23 @@ pub(crate) fn few_lines()
 /// Plays a scenario: makes its moves and writes their lines, and then the last line.
 fn play<K: Sink>(
     alloc: Global,
-    scenario: &Scenario,
+    scenario: Scenario,
     telling: Telling,
     sink: &mut K,
 ) -> Result<(), Stop>
-    requires { IsFit scenario.now }
+    requires { IsFit scenario }
     ensures later { K.faults sink.old ≤ K.faults sink.new }
-    ensures comes_to { RunOf telling scenario.now (K.written sink.old) (K.written sink.new) result }
+    ensures comes_to { RunOf telling scenario (K.written sink.old) (K.written sink.new) result }
     ensures failed { result ≡ Err Stop.WriteFault → Rose (K.faults sink.old) (K.faults sink.new) }
 {
-    match World::new(alloc, scenario) {
-        Ok(mut world) => play_in(alloc, scenario, telling, &mut world, sink),
+    match World::new(alloc, &scenario) {
+        Ok(mut world) => {
+            let played = play_in(alloc, &scenario, telling, &mut world, sink);
+            // The process ends behind a run, and gives the memory of both back at once.
+            mem::forget(world);
+            mem::forget(scenario);
+            played
+        }
         Err(_) => Err(Stop::NoMemory),
     }
 }
