@@ -1,11 +1,11 @@
 -- Lines and words, cut where the reader cuts them.
-use Rattle.std.proofs.Common.{◌≡◌, ◌≢◌, ℕ, ◌+◌, ◌<◌, ◌≤◌, ◌==◌, inl, inr, List, [], ◌∷◌, ◌++◌, length, arith, take, drop, slice_index, sym, ap, ◌∙◌, refl, true, false, add-one, zero, suc}
+use Rattle.std.proofs.Common.{◌≡◌, ◌≢◌, ℕ, ◌+◌, ◌<◌, ◌≤◌, ◌==◌, inl, inr, List, [], ◌∷◌, ◌++◌, length, arith, take, drop, sym, ap, ◌∙◌, refl, true, false, add-one, zero, suc}
 use Rattle.std.proofs.lemmas.Bool.{cases_Bool}
 use Rattle.std.proofs.lemmas.Grind.{common_steps}
 use Rattle.clnp_base.specs.Text.{lines_of, words_of, onto_first, begins_with}
 use Rattle.clnp_base.specs.Cuts.{index_of, without_return}
 use Rattle.std.specs.List.{AllByRecursion}
-use Rattle.memchr.specs.Find.{NoneBefore, Nowhere, Passes, is_byte}
+use Rattle.memchr.specs.Find.{Nowhere, Passes, is_byte}
 
 index_of-here : (w c : ℕ) (cs : List ℕ) → (c == w) ≡ true → index_of w (c ∷ cs) ≡ 0
 index_of-here w c cs t = rw t refl
@@ -133,6 +133,20 @@ lines_of-few (c ∷ cs) = grind (arith, common_steps, lines_of-few cs, onto_firs
 pub words_of-few : (xs : List ℕ) → length (words_of xs) ≤ length xs
 words_of-few [] = omega arith
 words_of-few (c ∷ cs) = grind (arith, common_steps, words_of-few cs, onto_first-few c (length cs) (words_of cs) (words_of-few cs))
+
+-- what stands in the front of a text stands there in the text
+pub index_of-front : (w : ℕ) (xs : List ℕ) (n : ℕ) → index_of w (take n xs) < length (take n xs) → index_of w xs ≡ index_of w (take n xs)
+index_of-front w [] zero h = absurd (omega (arith, h))
+index_of-front w [] (suc n) h = absurd (omega (arith, h))
+index_of-front w (c ∷ cs) zero h = absurd (omega (arith, h))
+index_of-front w (c ∷ cs) (suc n) h =
+    elim (cases_Bool (c == w)) [
+      | inl t ↦ index_of-here w c cs t ∙ sym (index_of-here w c (take n cs) t)
+      | inr f ↦
+          index_of-next w c cs f
+          ∙ (ap (λ (i : ℕ). i + 1) (index_of-front w cs n (omega (arith, h, index_of-next w c (take n cs) f)))
+          ∙ sym (index_of-next w c (take n cs) f))
+    ]
 
 -- nowhere in a list before a place, and nowhere in the rest of it
 behind : (w c : ℕ) (cs : List ℕ) (n : ℕ) → Nowhere (Passes (is_byte w) (c ∷ cs)) 0 (suc n) → Nowhere (Passes (is_byte w) cs) 0 n

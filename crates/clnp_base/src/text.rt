@@ -16,6 +16,9 @@ pub fn next_line(text: &[u8]) -> Option<(&[u8], &[u8])>
     ensures shorter { IfSome result (λ cut. length cut.1.now < length text.now) }
     ensures rest { IfSome result (λ cut. cut.1.now ≡ drop (length text.now - length cut.1.now) text.now) }
 {
+    if let [b'\n', rest @ ..] = text {
+        return Some((&[], rest));
+    }
     if text.is_empty() {
         return None;
     }
@@ -164,8 +167,24 @@ fn with_digit(value: u64, octet: u8) -> Option<u64>
     value.checked_mul(10)?.checked_add(u64::from(octet - b'0'))
 }
 
+/// How many octets of a line are looked at one by one, before many are looked at at once: a short line ends sooner so.
+const SHORT_LINE: usize = 4;
+
 /// Where the first `\n` stands, or the length where there is none.
 fn end_of_line(text: &[u8]) -> usize
+    ensures place { result ≡ index_of 10 text.now }
+    ensures within { result ≤ length text.now }
+{
+    let front = &text[..text.len().min(SHORT_LINE)];
+    let end = index_of(front, b'\n');
+    if end < front.len() {
+        return end;
+    }
+    end_of_long_line(text)
+}
+
+/// The same, of a line that is most often long.
+fn end_of_long_line(text: &[u8]) -> usize
     ensures place { result ≡ index_of 10 text.now }
     ensures within { result ≤ length text.now }
 {

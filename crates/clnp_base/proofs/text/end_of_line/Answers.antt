@@ -1,11 +1,8 @@
-use Rattle.std.proofs.Common.{sym}
-use Rattle.clnp_base.proofs.Reading.{index_of_found, index_of_none}
+use Rattle.std.proofs.Common.{sym, ◌∙◌, arith}
+use Rattle.clnp_base.proofs.Reading.{index_of-front}
 use Rattle.clnp_base.proofs.text.end_of_line.Goals as goal
 
-pub returns-in-Some-clause-place : goal.returns-in-Some-clause-place
-returns-in-Some-clause-place c =
-    let found = c.in-Some.ensures in
-    sym (index_of_found 10 c.args.text.now c.in-Some.place found.0.high found.0.before found.1)
-
-pub returns-in-None-clause-place : goal.returns-in-None-clause-place
-returns-in-None-clause-place c = sym (index_of_none 10 c.args.text.now c.in-None.ensures)
+pub returns-then-end-front-clause-place : goal.returns-then-end-front-clause-place
+returns-then-end-front-clause-place c =
+    let found = c.index_of-end.ensures.place in
+    found ∙ sym (index_of-front 10 c.args.text.now c.min.result (omega (arith, found, c.if-end-front.true)))
