@@ -1,7 +1,7 @@
 -- What holds of each scenario that is fit to be run holds of each text that is a scenario.
 use Rattle.std.proofs.Common.{◌≡◌, ℕ, List, Result, Ok, Err, IfOk, refl}
-use Rattle.clnp_world.specs.ScenarioPlan.Plan.{Plan, IsFit}
-use Rattle.clnp_world.specs.Scenario.Grammar.{BadLine, plan_of}
+use Rattle.clnp_machine.specs.ScenarioPlan.Plan.{Plan, IsFit}
+use Rattle.scenario.specs.Grammar.{BadLine, plan_of}
 
 read_fit : (read : Result Plan BadLine) (Holds : Plan → Type 0) → ((plan : Plan) → read ≡ Ok plan → IsFit plan)
     → ((plan : Plan) → IsFit plan → Holds plan) → IfOk read Holds

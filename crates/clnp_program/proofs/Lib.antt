@@ -1,1 +1,5 @@
 pub mod Fit
+pub mod ClnpWorld
+pub mod NetworkCommands
+pub mod LiveNode
+pub mod FairCommands

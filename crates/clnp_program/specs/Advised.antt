@@ -1,6 +1,6 @@
 -- What the author of a refused input is told.
 use Rattle.std.specs.Prelude.{◌≡◌, ℕ, ◌&&◌, Bool, true, false, List, [], Result, Ok, Err}
-use Rattle.live_node.specs.ScenarioAdvice.Said.{IsTold}
+use Rattle.scenario_advice.specs.Said.{IsTold}
 use Rattle.captures.specs.ClnpBase.declared.command_base.status.Status.{Status}
 use Rattle.captures.specs.ClnpBase.declared.command_base.status.Status.TheVariants.{BadInput}
 use Rattle.clnp_program.specs.declared.command.Command.{Command}

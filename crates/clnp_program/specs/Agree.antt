@@ -1,10 +1,10 @@
 -- What commands make of one another's output, and what a share is worth.
 use Rattle.std.specs.Prelude.{◌≡◌, ℕ, ◌≤◌, List, length, map, IfOk}
 use Rattle.hex.specs.Hex.{IsBytes}
-use Rattle.clnp_world.specs.ClnpBase.Text.{lines_of}
+use Rattle.clnp_machine.specs.ClnpBase.Text.{lines_of}
 use Rattle.captures.specs.ClnpBase.declared.command_base.status.Status.TheVariants.{Done}
-use Rattle.clnp_world.specs.Scenario.Grammar.{plan_of_version_1}
-use Rattle.clnp_world.specs.ClnpSafety.Migrated.{IsMigrated}
+use Rattle.scenario.specs.Grammar.{plan_of_version_1}
+use Rattle.clnp_safety.specs.Migrated.{IsMigrated}
 use Rattle.captures.specs.CaptureCommands.RoundTrip.{EndsPlainly, IsAcceptedCapture, PacksTo, ShowsAs, without_skipped}
 use Rattle.captures.specs.PcapFrames.File.{Captured}
 use Rattle.captures.specs.PcapFrames.Making.{frames_in, made_record}
@@ -13,8 +13,8 @@ use Rattle.captures.specs.declared.capture_commands.form.Form.TheVariants.{Remad
 use Rattle.captures.specs.CaptureCommands.Laws.{lines_of_frames}
 use Rattle.captures.specs.CaptureCommands.Lines.{TellsRecords}
 use Rattle.captures.specs.CaptureCommands.Make.{frames_of, make_status}
-use Rattle.fair_commands.specs.Fair.{IsFair}
-use Rattle.fair_commands.specs.Grammar.{capture_of}
+use Rattle.clnp_program.specs.FairCommands.Fair.{IsFair}
+use Rattle.clnp_program.specs.FairCommands.Grammar.{capture_of}
 
 pub record TextsAgree : Type 0 where
   -- Of a capture in lower case without skipped lines, each line of which ends by `\n` alone, whose frames are accepted and have

@@ -1,12 +1,12 @@
 -- What a call of the program comes to.
 use Rattle.std.specs.Prelude.{◌≡◌, ℕ, ◌⊎◌, List, [], ◌∷◌, ◌++◌, codes, Option, None, Some}
 use Rattle.std.specs.Io.KnownBytes.{Appends, Keeps}
-use Rattle.clnp_world.specs.ClnpBase.Streams.{AppendsFront}
+use Rattle.clnp_machine.specs.ClnpBase.Streams.{AppendsFront}
 use Rattle.captures.specs.ClnpBase.declared.command_base.status.Status.{Status}
 use Rattle.captures.specs.ClnpBase.declared.command_base.status.Status.TheVariants.{Done, WriteFault}
 use Rattle.captures.specs.CommandBase.Exit.{exit_number}
 use Rattle.clnp_program.specs.Live.{RunsAs}
-use Rattle.live_node.specs.LinkBoard.Ports.{PortState}
+use Rattle.frame_links.specs.LinkBoard.Ports.{PortState}
 use Rattle.clnp_program.specs.Serves.{Serves}
 use Rattle.clnp_program.specs.Words.{command_of}
 use Rattle.clnp_program.specs.Texts.{behind_fault, information}

@@ -7,3 +7,8 @@ pub mod Agree
 pub mod Texts
 pub mod Answers
 pub mod Faults
+pub mod ClnpWorld
+pub mod NetworkCommands
+pub mod LiveNode
+pub mod LiveCommands
+pub mod FairCommands

@@ -1,8 +1,8 @@
 -- What a call does with a board of links and a clock.
 use Rattle.std.specs.Prelude.{ℕ, List, Option, Result, Ok, Err}
 use Rattle.captures.specs.ClnpBase.declared.command_base.status.Status.{Status}
-use Rattle.live_node.specs.LinkBoard.Ports.{PortState}
-use Rattle.live_node.specs.LiveCommands.Serves.{ServesRun}
+use Rattle.frame_links.specs.LinkBoard.Ports.{PortState}
+use Rattle.clnp_program.specs.LiveCommands.Serves.{ServesRun}
 use Rattle.clnp_program.specs.declared.command.Command.{Command}
 use Rattle.clnp_program.specs.declared.command.Command.TheVariants.{Whole, Streamed, Run}
 

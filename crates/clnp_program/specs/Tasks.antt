@@ -1,8 +1,8 @@
 -- What each command and its input call for.
 use Rattle.std.specs.Prelude.{◌≡◌, ℕ, ◌&&◌, nat_lt, Bool, true, false, List, length}
-use Rattle.clnp_world.specs.ClnpBase.Text.{lines_of}
-use Rattle.clnp_world.specs.ClnpPlan.declared.journal.Telling.TheVariants as telling
-use Rattle.clnp_world.specs.NetworkCommands.RunTasks.{migrate_task, run_task, storm_task}
+use Rattle.clnp_machine.specs.ClnpBase.Text.{lines_of}
+use Rattle.clnp_machine.specs.ClnpPlan.declared.journal.Telling.TheVariants as telling
+use Rattle.clnp_program.specs.NetworkCommands.RunTasks.{migrate_task, run_task, storm_task}
 use Rattle.captures.specs.ClnpBase.declared.command_base.status.Status.{Status}
 use Rattle.captures.specs.ClnpBase.declared.command_base.status.Status.TheVariants.{TooLong}
 use Rattle.captures.specs.CommandBase.ByLine.{task_of}
@@ -11,7 +11,7 @@ use Rattle.captures.specs.CaptureCommands.Show.{showing}
 use Rattle.captures.specs.CaptureCommands.Check.{checking, first_checked}
 use Rattle.captures.specs.CaptureCommands.Pack.{packing}
 use Rattle.captures.specs.CaptureCommands.Make.{make_task}
-use Rattle.fair_commands.specs.Reassemble.{reassemble_task}
+use Rattle.clnp_program.specs.FairCommands.Reassemble.{reassemble_task}
 use Rattle.clnp_program.specs.declared.command.WholeCommand.{WholeCommand}
 use Rattle.clnp_program.specs.declared.command.WholeCommand.TheVariants.{Sim, Trace, Show, Check, Pack, PcapMake, Reassemble, Migrate, Storm}
 use Rattle.clnp_program.specs.Words.{reads}

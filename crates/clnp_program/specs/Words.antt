@@ -2,7 +2,7 @@
 use Rattle.std.specs.Prelude.{◌≡◌, ℕ, ◌+◌, ◌&&◌, nat_le, nat_lt, Bool, true, false, if◌then◌else◌, List, [], ◌∷◌, codes, Option, None, Some, Result, Ok, Err}
 use Rattle.std.specs.Str.{bytes_eq}
 use Rattle.std.specs.Io.KnownBytes.{Keeps}
-use Rattle.clnp_world.specs.ClnpBase.Text.{decimal_of}
+use Rattle.clnp_machine.specs.ClnpBase.Text.{decimal_of}
 use Rattle.frame_links.specs.LinkBoard.Words.{is_link_word}
 use Rattle.clnp_program.specs.declared.command.Command.{Command}
 use Rattle.clnp_program.specs.declared.command.Command.TheVariants.{Whole, Streamed, Run}

@@ -4,10 +4,10 @@ ghost use Rattle.clnp_program.specs.Advised.{Advised};
 ghost use Rattle.clnp_program.specs.declared.command.Command.TheVariants.{Whole};
 
 use crate::command::WholeCommand;
-use clnp_world::network_commands::Status;
-use live_node::live_commands::advising::{
+use crate::live_commands::advising::{
     Advice, of_capture, of_scenario, of_scenario_of_version_1, of_vectors,
 };
+use crate::network_commands::Status;
 
 /// What the author of an input is told that a command refuses at one of its lines: which word is at fault and what is wanted
 /// there, or what the line is about. Nothing with every other answer, and by the commands that tell nothing.

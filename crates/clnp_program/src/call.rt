@@ -1,18 +1,18 @@
 //! A call of the program over its words, its input, its output and standard error.
 ghost use Rattle.std.specs.Prelude.{◌≡◌, ◌≤◌, ◌⊎◌, ℕ, false, List, [], map, string_bytes};
 ghost use Rattle.clnp_program.specs.Advised.{Advised, is_bad_input};
-ghost use Rattle.clnp_world.specs.ClnpBase.Streams.{Rose};
+ghost use Rattle.clnp_machine.specs.ClnpBase.Streams.{Rose};
 ghost use Rattle.clnp_program.specs.Words.{command_of};
 ghost use Rattle.clnp_program.specs.declared.fault.Fault.{Fault};
 ghost use Rattle.clnp_program.specs.Answers.{Answers, Ends, Informs, Runs, WritesLine};
 
 use crate::fault::{Fault, report, write_fault};
 use crate::help::information;
+use crate::live_commands::Ports;
+use crate::live_commands::advising::Advice;
+use crate::network_commands::Status;
+use crate::network_commands::base::{Clock, Sink, Source, write_all};
 use crate::top::clnp_main;
-use clnp_world::network_commands::Status;
-use clnp_world::network_commands::base::{Clock, Sink, Source, write_all};
-use live_node::live_commands::Ports;
-use live_node::live_commands::advising::Advice;
 use std::alloc::Global;
 
 /// The exit number where the local end of a link word can't be bound.

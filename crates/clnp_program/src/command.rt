@@ -2,7 +2,7 @@
 ghost use Rattle.std.specs.Prelude.{◌≡◌, ◌≤◌, IfSome, length, map, string_bytes};
 ghost use Rattle.clnp_program.specs.Words.{ArePlaces, alone, command_named, command_of, no_link_from, reads, run_of, run_over, storm_of, turns_of};
 
-use clnp_world::network_commands::base::decimal;
+use crate::network_commands::base::decimal;
 use frame_links::link_board::is_link_word;
 use std::ops::Range;
 

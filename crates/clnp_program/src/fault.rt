@@ -1,20 +1,20 @@
 //! How a call of the program ends: what is said on standard error, and the exit number.
 ghost use Rattle.std.specs.Prelude.{◌≡◌, ◌≤◌, ◌++◌, codes, OnOk, OnErr};
 ghost use Rattle.std.specs.Io.KnownBytes.{Appends};
-ghost use Rattle.clnp_world.specs.ClnpBase.Streams.{Rose};
+ghost use Rattle.clnp_machine.specs.ClnpBase.Streams.{Rose};
 ghost use Rattle.captures.specs.CommandBase.Codes.{magic_code};
 ghost use Rattle.clnp_program.specs.Answers.{Tells, TellsFault, WritesLine, line_of_advice};
 ghost use Rattle.clnp_program.specs.Faults.{fault_of};
 ghost use Rattle.clnp_program.specs.Texts.{behind_code, behind_fault, wanted};
 
-use arrayvec::ArrayString;
-use clnp_world::network_commands::Status;
-use clnp_world::network_commands::base::{Failed, Sink, write_all};
-use clnp_world::network_commands::code::{
+use crate::live_commands::advising::Advice;
+use crate::network_commands::Status;
+use crate::network_commands::base::{Failed, Sink, write_all};
+use crate::network_commands::code::{
     CUT_FILE, LINK_TYPE, MAGIC, NOT_PACKABLE, RECORD_LENGTH, VERSION,
 };
-use clnp_world::network_commands::scenarios::Code;
-use live_node::live_commands::advising::Advice;
+use crate::network_commands::scenarios::Code;
+use arrayvec::ArrayString;
 use std::fmt::Write;
 use thiserror::Error;
 

@@ -1,11 +1,11 @@
 //! The top call: words and input in, output and a status out.
 ghost use Rattle.std.specs.Prelude.{◌≡◌, ◌≢◌, ◌≤◌, ℕ, false, List, [], length, map, IfOk, OnOk, Ok, Err, string_bytes};
-ghost use Rattle.clnp_world.specs.ClnpBase.Streams.{Rose};
-ghost use Rattle.clnp_world.specs.Scenario.Grammar.{plan_of};
-ghost use Rattle.clnp_world.specs.ScenarioWriting.Canonical.{text_of};
-ghost use Rattle.clnp_world.specs.ScenarioPlan.Plan.{IsClosed};
-ghost use Rattle.clnp_world.specs.ScenarioWriting.Seeds as seeds;
-ghost use Rattle.clnp_world.specs.ClnpSafety.Runs.{RunsAreSafe};
+ghost use Rattle.clnp_machine.specs.ClnpBase.Streams.{Rose};
+ghost use Rattle.scenario.specs.Grammar.{plan_of};
+ghost use Rattle.scenario.specs.ScenarioWriting.Canonical.{text_of};
+ghost use Rattle.clnp_machine.specs.ScenarioPlan.Plan.{IsClosed};
+ghost use Rattle.scenario.specs.ScenarioWriting.Seeds as seeds;
+ghost use Rattle.clnp_safety.specs.Runs.{RunsAreSafe};
 ghost use Rattle.clnp_program.specs.Words.{command_of, reads, Reads};
 ghost use Rattle.clnp_program.specs.Advised.{Advised};
 ghost use Rattle.clnp_program.specs.declared.command.Command.TheVariants.{Whole};
@@ -19,20 +19,20 @@ ghost use Rattle.captures.specs.CommandBase.ComesAs.{ComesAs, most_input};
 
 use crate::advise::advice_on;
 use crate::command::{Command, StreamedCommand, WholeCommand};
+use crate::fair_commands::reassemble;
+use crate::live_commands::advising::Advice;
+use crate::live_commands::{Ports, run_system};
+use crate::network_commands::base::{Clock, ReadStop, Sink, Source, read_all};
+use crate::network_commands::migrate::migrate;
+use crate::network_commands::safety::{runs_are_safe, texts_of_version_1_migrate};
+use crate::network_commands::scenarios::laws;
+use crate::network_commands::sim::sim;
+use crate::network_commands::storm::storm;
+use crate::network_commands::{Status, Telling};
 use captures::capture_commands::check::check;
 use captures::capture_commands::pack::pack;
 use captures::capture_commands::show::show;
 use captures::capture_commands::{pcap_lines, pcap_make, pcap_show};
-use clnp_world::network_commands::base::{Clock, ReadStop, Sink, Source, read_all};
-use clnp_world::network_commands::migrate::migrate;
-use clnp_world::network_commands::safety::{runs_are_safe, texts_of_version_1_migrate};
-use clnp_world::network_commands::scenarios::laws;
-use clnp_world::network_commands::sim::sim;
-use clnp_world::network_commands::storm::storm;
-use clnp_world::network_commands::{Status, Telling};
-use fair_commands::reassemble;
-use live_node::live_commands::advising::Advice;
-use live_node::live_commands::{Ports, run_system};
 use std::alloc::Global;
 
 /// The most octets of an input.
@@ -159,7 +159,7 @@ fn texts_agree()
     captures::capture_commands::laws::what_is_packed_is_shown_again();
     captures::capture_commands::pcap_laws::lines_make_the_frames_again();
     captures::capture_commands::pcap_laws::a_made_file_gives_its_lines_again();
-    fair_commands::shares_are_fair();
+    crate::fair_commands::shares_are_fair();
     texts_of_version_1_migrate();
 }
 

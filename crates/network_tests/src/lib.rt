@@ -1,6 +1,7 @@
 //! Tests of the public calls of hosts, of routers, and of the enum of both: each is called where memory is there, and what
 //! it gives out is compared; of the local entity, the simulated network, the commands and the program: worked examples, and a
-//! happy path of each call that takes memory; and of runs of live nodes over boards of links.
+//! happy path of each call that takes memory; of texts of captured traffic with their bad lines; and of runs of live nodes over
+//! boards of links.
 #![tactic(auto)]
 
 #[cfg(test)]
@@ -9,6 +10,8 @@ mod clnp_main_calls;
 mod clnp_program_calls;
 #[cfg(test)]
 mod clnp_world_calls;
+#[cfg(test)]
+mod fair_texts;
 #[cfg(test)]
 mod host_calls;
 #[cfg(test)]

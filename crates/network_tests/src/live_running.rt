@@ -1,9 +1,9 @@
 //! Runs of a node, and what they say.
 
 use crate::live_clock::moments;
+use clnp_program::live_node::{RunStop, run_node};
 use frame_links::link_board::Ports;
 use frame_links::link_board::base::{MemClock, MemSink, NoMemory, lines};
-use live_node::{RunStop, run_node};
 use scenario::read_for_run;
 use std::alloc::Global;
 use std::mem::forget;

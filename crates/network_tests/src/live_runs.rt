@@ -2,9 +2,9 @@
 
 use crate::live_noting::{Notes, is_dropped, no_notes, noting_link};
 use crate::live_running::{new_sink, run};
+use clnp_program::live_node::RunStop;
 use frame_links::link_board::base::NoMemory;
 use frame_links::link_board::{Board, Link};
-use live_node::RunStop;
 use std::alloc::Global;
 use std::cell::RefCell;
 use std::mem::forget;

@@ -1,4 +1,4 @@
-use Rattle.clnp_world.specs.ClnpSafety.Runs.{RunsAreSafe}
+use Rattle.clnp_safety.specs.Runs.{RunsAreSafe}
 use Rattle.clnp_program.proofs.Fit.{of_fit}
 use Rattle.clnp_program.proofs.top.every_run_is_safe.Goals as goal
 

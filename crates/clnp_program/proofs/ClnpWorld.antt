@@ -1,0 +1,15 @@
+pub mod FirstSteps
+pub mod ModelSteps
+pub mod LineSteps
+pub mod EachSteps
+pub mod PutSteps
+pub mod TakeSteps
+pub mod NextSteps
+pub mod GiveSteps
+pub mod TellSteps
+pub mod SendSteps
+pub mod InjectSteps
+pub mod TickSteps
+pub mod ChangeSteps
+pub mod ResizeSteps
+pub mod WorldSteps

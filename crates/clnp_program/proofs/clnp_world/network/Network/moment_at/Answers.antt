@@ -1,0 +1,11 @@
+-- The system stands for the system at its place.
+use Rattle.std.proofs.Common.{◌∙◌, arith, refl}
+use Rattle.std.proofs.lemmas.Option.{slice_get_read}
+use Rattle.clnp_program.proofs.ClnpWorld.EachSteps.{each_at}
+use Rattle.clnp_program.proofs.clnp_world.network.Network.moment_at.Goals as goal
+
+pub returns-clause-moment : goal.returns-clause-moment
+returns-clause-moment c = λ model system h there.
+    let here = slice_get_read c.args.self.now.systems.items _ c.args.place c.index.result.now refl (omega arith) c.index.ensures in
+    let stands = each_at c.args.self.now.systems.items model.systems c.args.place c.index.result.now system h.systems here there in
+    c.moment.ensures.moment ∙ stands.parts.moment

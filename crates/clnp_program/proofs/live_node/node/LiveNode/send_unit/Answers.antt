@@ -1,0 +1,36 @@
+-- A unit is asked for.
+use Rattle.std.proofs.Common.{◌∙◌, List, [], ◌∷◌, refl}
+use Rattle.std.proofs.lemmas.Result.{on_err_weaker, on_ok_weaker}
+use Rattle.clnp_machine.specs.Content.{Unlabelled}
+use Rattle.clnp_machine.specs.System.{Input, AsksToSend}
+use Rattle.clnp_plan.specs.ScenarioPlan.Plan.{octets_of}
+use Rattle.clnp_machine.specs.LiveModel.Node.{come_all}
+use Rattle.clnp_program.proofs.LiveNode.Breaking.{breaks_as, breaks_nothing, idle_come_all}
+use Rattle.clnp_program.proofs.LiveNode.Playing.{plays_as}
+use Rattle.clnp_program.proofs.LiveNode.Inputs.{comes_as}
+use Rattle.clnp_program.proofs.live_node.node.LiveNode.send_unit.Goals as goal
+
+pub returns-clause-plays : goal.returns-clause-plays
+returns-clause-plays g c =
+    on_ok_weaker c.comes.result (λ k node h.
+    plays_as _ _ node node _ _ _ _ _
+    (λ outcomes. comes_as (λ octets. AsksToSend c.args.from c.args.to octets c.args.ask.now) node outcomes (c.deref.ensures.value ∙ c.in-Ok.ensures)) refl
+    (k node (Unlabelled []) h tt)) c.comes.ensures.plays
+
+pub returns-clause-breaks : goal.returns-clause-breaks
+returns-clause-breaks g c =
+    on_err_weaker c.comes.result (λ k node h.
+    breaks_as _ _ node node _ _ _ _
+    (λ outcomes. comes_as (λ octets. AsksToSend c.args.from c.args.to octets c.args.ask.now) node outcomes (c.deref.ensures.value ∙ c.in-Ok.ensures)) refl
+    (k node (Unlabelled []) h tt)) c.comes.ensures.breaks
+
+pub returns-in_default-clause-breaks : goal.returns-in_default-clause-breaks
+returns-in_default-clause-breaks g c = λ node h.
+    let asked : List Input = AsksToSend c.args.from c.args.to (octets_of c.args.body.now) c.args.ask.now ∷ [] in
+    breaks_nothing (come_all node asked) node _ _ (idle_come_all asked node)
+
+pub returns-clause-moment : goal.returns-clause-moment
+returns-clause-moment g c = on_ok_weaker c.comes.result (λ k. k (Unlabelled []) tt) c.comes.ensures.moment
+
+pub returns-clause-config : goal.returns-clause-config
+returns-clause-config g c = c.comes.ensures.config (Unlabelled []) tt

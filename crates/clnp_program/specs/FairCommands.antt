@@ -1,0 +1,9 @@
+pub mod Frames
+pub mod Reassemble
+pub mod Writing
+pub mod Claims
+pub mod Fair
+pub mod Grammar
+pub mod Output
+pub mod Refusal
+pub mod Telling

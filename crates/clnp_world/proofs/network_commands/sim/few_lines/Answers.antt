@@ -1,5 +1,0 @@
-use Rattle.clnp_world.proofs.network_commands.sim.few_lines.Goals as goal
-use Rattle.clnp_machine.proofs.ClnpBase.Reading.{lines_of-few}
-
-pub returns : goal.returns
-returns c = lines_of-few

@@ -1,5 +1,0 @@
-use Rattle.std.proofs.Common.{◌≡◌, ◌++◌}
-use Rattle.fair_commands.proofs.frame.joined.Given as goal
-
-abbrev pub invariant-loop-piece : goal.invariant-loop-piece
-invariant-loop-piece l = l.octets.items ++ l.piece-iterator ≡ l.initial.octets.items ++ l.initial.piece-iterator

@@ -1,4 +1,0 @@
-use Rattle.fair_commands.proofs.joining.reassemble.Goals as goal
-
-pub join-requires : goal.join-requires
-join-requires g c = c.an_accepted_text_is_in_range.ensures c.args.text.now c.in-Ok.capture c.in-Ok.ensures

@@ -1,8 +1,0 @@
--- There are at most eight.
-use Rattle.std.proofs.Common.{arith}
-use Rattle.live_node.proofs.Runs.{few_ports}
-use Rattle.live_node.proofs.run.count_ports.Goals as goal
-
-pub overflow_cast-result : goal.overflow_cast-result
-overflow_cast-result g c =
-    omega (arith, c.count.ensures, few_ports _ c.args.scenario.now.systems c.requires.one c.is_fit.ensures.systems c.requires.ports)

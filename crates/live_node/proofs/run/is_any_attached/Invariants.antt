@@ -1,8 +1,0 @@
-use Rattle.std.proofs.Common.{◌≡◌, drop}
-use Rattle.live_node.specs.Ran.{has_any_attached}
-use Rattle.live_node.proofs.run.is_any_attached.Given as goal
-
-abbrev pub invariant-loop-port : goal.invariant-loop-port
-invariant-loop-port g l = record {
-  rest : has_any_attached (g.B.Ports.ports l.board) ≡ has_any_attached (drop l.port (g.B.Ports.ports l.board));
-}
