@@ -5,6 +5,7 @@ use Rattle.clnp_machine.specs.ClnpBase.Streams.{AppendsFront}
 use Rattle.captures.specs.ClnpBase.declared.command_base.status.Status.{Status}
 use Rattle.captures.specs.ClnpBase.declared.command_base.status.Status.TheVariants.{Done, WriteFault}
 use Rattle.captures.specs.CommandBase.Exit.{exit_number}
+use Rattle.clnp_program.specs.LiveNode.Clocks.{ClockState}
 use Rattle.clnp_program.specs.Live.{RunsAs}
 use Rattle.frame_links.specs.LinkBoard.Ports.{PortState}
 use Rattle.clnp_program.specs.Serves.{Serves}
@@ -34,19 +35,19 @@ Answers words left_before left_after before after same_source same_sink read_ros
 
 -- what becomes of the board and the clock: a text about the program leaves them as they are
 abbrev pub RunsOn : Option (List ℕ) → (words : List (List ℕ)) → (left_before left_after before after : Option (List ℕ))
-    → (ports_before ports_after : List PortState) → (moments_before moments_after : Option (List ℕ))
+    → (ports_before ports_after : List PortState) → (clock_before clock_after : ClockState)
     → (same_sink same_board same_clock read_rose write_rose : Type 0) → Status → Type 0
-RunsOn (Some text) words left_before left_after before after ports_before ports_after moments_before moments_after same_sink same_board same_clock read_rose write_rose status =
+RunsOn (Some text) words left_before left_after before after ports_before ports_after clock_before clock_after same_sink same_board same_clock read_rose write_rose status =
     same_board × same_clock
-RunsOn None words left_before left_after before after ports_before ports_after moments_before moments_after same_sink same_board same_clock read_rose write_rose status =
-    RunsAs (command_of words) left_before left_after before after ports_before ports_after moments_before moments_after
+RunsOn None words left_before left_after before after ports_before ports_after clock_before clock_after same_sink same_board same_clock read_rose write_rose status =
+    RunsAs (command_of words) left_before left_after before after ports_before ports_after clock_before clock_after
     same_sink same_board same_clock read_rose write_rose status
 
 abbrev pub Runs : (words : List (List ℕ)) → (left_before left_after before after : Option (List ℕ))
-    → (ports_before ports_after : List PortState) → (moments_before moments_after : Option (List ℕ))
+    → (ports_before ports_after : List PortState) → (clock_before clock_after : ClockState)
     → (same_sink same_board same_clock read_rose write_rose : Type 0) → Status → Type 0
-Runs words left_before left_after before after ports_before ports_after moments_before moments_after same_sink same_board same_clock read_rose write_rose status =
-    RunsOn (information words) words left_before left_after before after ports_before ports_after moments_before moments_after
+Runs words left_before left_after before after ports_before ports_after clock_before clock_after same_sink same_board same_clock read_rose write_rose status =
+    RunsOn (information words) words left_before left_after before after ports_before ports_after clock_before clock_after
     same_sink same_board same_clock read_rose write_rose status
 
 -- the line of a fault, with a text of its own, and behind that of bad words which words are commands

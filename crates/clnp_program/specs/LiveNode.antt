@@ -1,5 +1,6 @@
 pub mod Outputs
 pub mod Links
+pub mod Clocks
 pub mod Plays
 pub mod Agenda
 pub mod Ran

@@ -1,7 +1,14 @@
 //! A call of the program over its words, its input, its output and standard error.
-ghost use Rattle.std.specs.Prelude.{◌≡◌, ◌≤◌, ◌⊎◌, ℕ, false, List, [], map, string_bytes};
+ghost use Rattle.std.specs.Prelude.{◌≡◌, ◌≤◌, ◌⊎◌, ℕ, false, IfOk, List, [], Ok, map, string_bytes};
+ghost use Rattle.clnp_machine.specs.ScenarioPlan.Plan.{IsClosed};
 ghost use Rattle.clnp_program.specs.Advised.{Advised, is_bad_input};
+ghost use Rattle.clnp_program.specs.Agree.{TextsAgree};
+ghost use Rattle.clnp_safety.specs.Runs.{RunsAreSafe};
+ghost use Rattle.scenario.specs.Grammar.{plan_of};
+ghost use Rattle.scenario.specs.ScenarioWriting.Canonical.{text_of};
+ghost use Rattle.scenario.specs.ScenarioWriting.Seeds as seeds;
 ghost use Rattle.clnp_machine.specs.ClnpBase.Streams.{Rose};
+ghost use Rattle.clnp_program.specs.LiveNode.Clocks.{clock_of};
 ghost use Rattle.clnp_program.specs.Words.{command_of};
 ghost use Rattle.clnp_program.specs.declared.fault.Fault.{Fault};
 ghost use Rattle.clnp_program.specs.Answers.{Answers, Ends, Informs, Runs, WritesLine};
@@ -12,7 +19,7 @@ use crate::live_commands::Ports;
 use crate::live_commands::advising::Advice;
 use crate::network_commands::Status;
 use crate::network_commands::base::{Clock, Sink, Source, write_all};
-use crate::top::clnp_main;
+use crate::top::{clnp_main, every_run_is_safe, texts_agree};
 use std::alloc::Global;
 
 /// The exit number where the local end of a link word can't be bound.
@@ -46,10 +53,22 @@ pub fn run<S: Source, K: Sink, B: Ports, C: Clock, E: Sink>(
         (Rose (S.faults source.old) (S.faults source.new)) (Rose (K.faults sink.old) (K.faults sink.new)) status
         × Runs (map string_bytes words.now) (S.left source.old) (S.left source.new)
         (K.written sink.old) (K.written sink.new)
-        (B.ports board.old) (B.ports board.new) (C.moments clock.old) (C.moments clock.new)
+        (B.ports board.old) (B.ports board.new) (clock_of (C.moments clock.old) (C.last clock.old)) (clock_of (C.moments clock.new) (C.last clock.new))
         (sink.new ≡ sink.old) (board.new ≡ board.old) (clock.new ≡ clock.old)
         (Rose (S.faults source.old) (S.faults source.new)) (Rose (K.faults sink.old) (K.faults sink.new)) status }
+
+    // What is said below of scenario texts is so of storms too: the scenario of each seed is that of a
+    // text, and no frame comes from outside in it.
+    ensures storms { (seed : ℕ) → (plan_of (text_of (seeds.storm seed)) ≡ Ok (seeds.storm seed)) × IsClosed (seeds.storm seed) }
+
+    // The runs of each text that is a scenario are safe.
+    ensures safe { (text : List ℕ) → IfOk (plan_of text) RunsAreSafe }
+
+    // What commands make of one another's output, and what a share is worth.
+    ensures agree { TextsAgree }
 {
+    every_run_is_safe();
+    texts_agree();
     let mut advice = Advice::new();
     let status = answer(alloc, words, source, sink, board, clock, &mut advice);
     end_advised(status, &advice, errors)
@@ -104,7 +123,7 @@ fn answer<S: Source, K: Sink, B: Ports, C: Clock>(
         × (C.last clock.old ≤ C.last clock.new) }
     ensures runs { Runs (map string_bytes words.now) (S.left source.old) (S.left source.new)
         (K.written sink.old) (K.written sink.new)
-        (B.ports board.old) (B.ports board.new) (C.moments clock.old) (C.moments clock.new)
+        (B.ports board.old) (B.ports board.new) (clock_of (C.moments clock.old) (C.last clock.old)) (clock_of (C.moments clock.new) (C.last clock.new))
         (sink.new ≡ sink.old) (board.new ≡ board.old) (clock.new ≡ clock.old)
         (Rose (S.faults source.old) (S.faults source.new)) (Rose (K.faults sink.old) (K.faults sink.new)) result }
     ensures answers { Answers (map string_bytes words.now) (S.left source.old) (S.left source.new)

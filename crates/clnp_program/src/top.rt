@@ -12,6 +12,7 @@ ghost use Rattle.clnp_program.specs.declared.command.Command.TheVariants.{Whole}
 ghost use Rattle.captures.specs.CaptureCommands.Serves.{ServesFile};
 ghost use Rattle.captures.specs.CommandBase.Reading.{TakesTooMany, TakesWithin};
 ghost use Rattle.clnp_program.specs.Live.{RunsAs};
+ghost use Rattle.clnp_program.specs.LiveNode.Clocks.{clock_of};
 ghost use Rattle.clnp_program.specs.Serves.{Serves, ServesCommand, form_of};
 ghost use Rattle.clnp_program.specs.Tasks.{task};
 ghost use Rattle.clnp_program.specs.Agree.{TextsAgree};
@@ -72,7 +73,7 @@ pub fn clnp_main<S: Source, K: Sink, B: Ports, C: Clock>(
 
     // What became of the board and the clock; and what the call comes to that runs a node.
     ensures runs { RunsAs (command_of (map string_bytes words.now)) (S.left source.old) (S.left source.new) (K.written sink.old) (K.written sink.new)
-        (B.ports board.old) (B.ports board.new) (C.moments clock.old) (C.moments clock.new)
+        (B.ports board.old) (B.ports board.new) (clock_of (C.moments clock.old) (C.last clock.old)) (clock_of (C.moments clock.new) (C.last clock.new))
         (sink.new ≡ sink.old) (board.new ≡ board.old) (clock.new ≡ clock.old)
         (Rose (S.faults source.old) (S.faults source.new)) (Rose (K.faults sink.old) (K.faults sink.new)) result }
 
@@ -142,7 +143,7 @@ fn serve_streamed<S: Source, K: Sink>(
 }
 
 /// What is so of the runs of each text that is a scenario, those of storms among them.
-fn every_run_is_safe()
+pub(crate) fn every_run_is_safe()
     ensures storms { (seed : ℕ) → (plan_of (text_of (seeds.storm seed)) ≡ Ok (seeds.storm seed)) × IsClosed (seeds.storm seed) }
     ensures safe { (text : List ℕ) → IfOk (plan_of text) RunsAreSafe }
 {
@@ -152,7 +153,7 @@ fn every_run_is_safe()
 }
 
 /// What commands make of one another's output, and what a share is worth.
-fn texts_agree()
+pub(crate) fn texts_agree()
     ensures { TextsAgree }
 {
     captures::capture_commands::laws::what_is_shown_is_packed_again();

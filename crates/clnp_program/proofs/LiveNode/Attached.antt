@@ -1,5 +1,5 @@
 -- Whether the link of any port is attached, port by port.
-use Rattle.std.proofs.Common.{◌≡◌, ◌≤◌, ◌+◌, ℕ, zero, suc, true, false, List, [], ◌∷◌, drop, length, add-one, refl, arith}
+use Rattle.std.proofs.Common.{◌≡◌, ◌≤◌, ◌+◌, ℕ, zero, suc, true, false, Bool, ◌||◌, List, [], ◌∷◌, drop, length, add-one, refl, arith}
 use Rattle.frame_links.specs.LinkBoard.Ports.{PortState, is_attached_at}
 use Rattle.clnp_program.specs.LiveNode.Ran.{has_any_attached}
 
@@ -24,6 +24,15 @@ none_behind zero [] h = refl
 none_behind (suc place) [] h = refl
 none_behind zero (port ∷ ports) h = absurd (omega (arith, h))
 none_behind (suc place) (port ∷ ports) h = none_behind place ports (omega (arith, h))
+
+or_any : (b : Bool) → (b || true) ≡ true
+or_any true = refl
+or_any false = refl
+
+pub any_there : (place : ℕ) (ports : List PortState) → is_attached_at place ports ≡ true → has_any_attached ports ≡ true
+any_there place [] e = absurd (cc)
+any_there zero (port ∷ ports) e = rw e refl
+any_there (suc place) (port ∷ ports) e = rw (any_there place ports e) (or_any port.attached)
 
 pub any_start : (ports : List PortState) → has_any_attached ports ≡ has_any_attached (drop 0 ports)
 any_start [] = refl

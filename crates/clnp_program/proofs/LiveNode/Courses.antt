@@ -1,14 +1,13 @@
 -- Turns, one after another.
-use Rattle.std.proofs.Common.{◌≡◌, ◌≤◌, ◌+◌, ◌∙◌, ℕ, Bool, true, false, ◌||◌, List, [], ◌∷◌, ◌++◌, length, take, Option, Err, refl, sym, ap, subst, append_assoc, append-nil, length-append, arith}
-use Rattle.std.specs.Prelude.{if◌then◌else◌}
-use Rattle.std.specs.List.{AllByRecursion, list_any}
+use Rattle.std.proofs.Common.{◌≡◌, ◌<◌, ◌≤◌, ◌+◌, ◌∙◌, inl, inr, ℕ, Bool, true, false, ◌||◌, List, [], ◌∷◌, ◌++◌, length, take, Option, Err, refl, sym, ap, subst, append_assoc, append-nil, length-append, arith}
+use Rattle.std.specs.Prelude.{if◌then◌else◌, ◌⊎◌}
+use Rattle.std.specs.List.{AllByRecursion}
 use Rattle.std.specs.Io.KnownBytes.{Appends}
 use Rattle.std.proofs.KnownBytes.{Appends-nil, Appends-trans}
 use Rattle.std.proofs.Math.Seq.{take-append-add}
 use Rattle.std.proofs.lemmas.Grind.{flat_map-append}
 use Rattle.std.proofs.lemmas.List.{map-append}
 use Rattle.clnp_machine.specs.ClnpPlan.Journal.{end_text}
-use Rattle.frame_links.specs.ClnpBase.Moments.{GivesMoment}
 use Rattle.frame_links.specs.ClnpBase.Streams.{AppendsFront}
 use Rattle.frame_links.specs.LinkBoard.Ports.{PortState}
 use Rattle.clnp_machine.specs.LiveModel.Lines.{NodeLine, lines_text}
@@ -21,10 +20,12 @@ use Rattle.clnp_program.specs.declared.live_node.node.Stop.{Stop}
 use Rattle.clnp_program.specs.declared.live_node.node.Stop.TheVariants as broken
 use Rattle.clnp_program.specs.declared.live_node.run.RunStop.{RunStop}
 use Rattle.clnp_program.specs.declared.live_node.run.RunStop.TheVariants.{WriteFault, LinksGone, NoMemory}
+use Rattle.clnp_program.specs.LiveNode.Clocks.{ClockState, ReadsMoment, ReadsMoments}
 use Rattle.clnp_program.specs.LiveNode.Links.{PortsWent}
 use Rattle.clnp_program.specs.LiveNode.Plays as plays
-use Rattle.clnp_program.specs.LiveNode.Plays.{Plays, Stands, lines_by, taken_by_then}
-use Rattle.clnp_program.specs.LiveNode.Ran.{EndsAs, GivesMoments, HasNoLink, IsBrokenOff, IsDetached, IsSome, RanTo, StopsIn, broken_by, has_any_attached, taken_in}
+use Rattle.clnp_program.specs.LiveNode.Plays.{HasMore, Plays, Stands, attached_by_then, lines_by, taken_by_then}
+use Rattle.clnp_program.specs.LiveNode.Ran.{AppendsPart, EndsAs, HasNoLink, IsBrokenOff, IsDetached, IsSome, RanTo, StopsIn, attached_in, broken_by, has_any_attached, taken_in}
+use Rattle.clnp_program.proofs.LiveNode.Breaking.{same_links}
 use Rattle.clnp_program.proofs.LiveNode.Playing.{appends_both, text_both}
 use Rattle.clnp_program.proofs.LiveNode.Ports.{ports_both, ports_same}
 
@@ -54,6 +55,12 @@ over_behind lines (IsOver node others) h = tt
 over_behind lines (Breaks node others) h = absurd h
 over_behind lines IsNone h = absurd h
 
+over_before : (lines : List NodeLine) (c : Course) → HasNoLink (course_behind lines c) → HasNoLink c
+over_before lines (Runs node others) h = absurd h
+over_before lines (IsOver node others) h = tt
+over_before lines (Breaks node others) h = absurd h
+over_before lines IsNone h = absurd h
+
 over_some : (c : Course) → HasNoLink c → IsSome c
 over_some (Runs node others) h = tt
 over_some (IsOver node others) h = tt
@@ -74,6 +81,12 @@ taken_behind lines (IsOver node others) h = refl
 taken_behind lines (Breaks node others) h = refl
 taken_behind lines IsNone h = absurd h
 
+attached_behind : (lines : List NodeLine) (c : Course) → IsSome c → attached_in (course_behind lines c) ≡ attached_in c
+attached_behind lines (Runs node others) h = refl
+attached_behind lines (IsOver node others) h = refl
+attached_behind lines (Breaks node others) h = refl
+attached_behind lines IsNone h = absurd h
+
 -- ---- fronts
 
 pub front_behind : (old mid new : Option (List ℕ)) (piece more : List ℕ) → Appends old mid piece → AppendsFront mid new more → AppendsFront old new (piece ++ more)
@@ -82,6 +95,21 @@ front_behind old mid new piece more h k = record {
   within = omega (arith, length-append piece more, k.within);
   appends = rw (take-append-add piece more k.count) (Appends-trans old mid new piece (take k.count more) h k.appends);
 }
+
+part_behind : (old mid new : Option (List ℕ)) (piece more : List ℕ) → Appends old mid piece → AppendsPart mid new more → AppendsPart old new (piece ++ more)
+part_behind old mid new piece more h k = record {
+  count = length piece + k.count;
+  short = omega (arith, length-append piece more, k.short);
+  appends = rw (take-append-add piece more k.count) (Appends-trans old mid new piece (take k.count more) h k.appends);
+}
+
+-- what was written is a part of a text, where something is left of it
+part_of : (old new : Option (List ℕ)) (text front rest others : List ℕ) → text ≡ front ++ (rest ++ others) → Appends old new front → 0 < length rest
+    → AppendsPart old new text
+part_of old new text front rest others e h some =
+    subst (λ (t : List ℕ). AppendsPart old new t) (sym e)
+    (part_behind old new new front (rest ++ others) h
+    (record { count = 0; short = omega (arith, length-append rest others, some); appends = Appends-nil new }))
 
 pub front_none : (old : Option (List ℕ)) (piece : List ℕ) → AppendsFront old old piece
 front_none old piece = record { count = 0; within = omega arith; appends = Appends-nil old }
@@ -95,14 +123,14 @@ front_as old new text front rest e h = subst (λ (t : List ℕ). AppendsFront ol
 
 -- ---- moments and outcomes of turns
 
-moments_both : (a b c : Option (List ℕ)) (given others : List ℕ) → GivesMoments a b given → GivesMoments b c others → GivesMoments a c (given ++ others)
-moments_both a b c [] others e k = subst (λ (m : Option (List ℕ)). GivesMoments m c others) e k
-moments_both a b c (first ∷ given) others h k = (h.0, h.1, moments_both h.0 b c given others h.2 k)
+moments_both : (a b c : ClockState) (read others : List ℕ) → ReadsMoments a b read → ReadsMoments b c others → ReadsMoments a c (read ++ others)
+moments_both a b c [] others e k = subst (λ (clock : ClockState). ReadsMoments clock c others) e k
+moments_both a b c (first ∷ read) others h k = (h.0, h.1, moments_both h.0 b c read others h.2 k)
 
-turns_moments : (a b c : Option (List ℕ)) (turns others : List Turn) → GivesMoments a b (moments_of turns) → GivesMoments b c (moments_of others)
-    → GivesMoments a c (moments_of (turns ++ others))
+turns_moments : (a b c : ClockState) (turns others : List Turn) → ReadsMoments a b (moments_of turns) → ReadsMoments b c (moments_of others)
+    → ReadsMoments a c (moments_of (turns ++ others))
 turns_moments a b c turns others h k =
-    subst (λ (given : List ℕ). GivesMoments a c given) (sym (map-append (λ (turn : Turn). turn.moment) turns others))
+    subst (λ (read : List ℕ). ReadsMoments a c read) (sym (map-append (λ (turn : Turn). turn.moment) turns others))
     (moments_both a b c (moments_of turns) (moments_of others) h k)
 
 outcomes_both : (turns others : List Turn) → outcomes_of (turns ++ others) ≡ outcomes_of turns ++ outcomes_of others
@@ -116,9 +144,6 @@ turns_ports before between after turns others taken more h k =
     (ports_both 0 before between after (outcomes_of turns) (outcomes_of others) taken more h k)
 
 -- ---- whether a link is attached
-
-same_links : (live : LiveNode) (ports : List PortState) (node : Node) → Stands live ports node → has_any_link node ≡ has_any_attached ports
-same_links live ports node h = ap (λ (attached : List Bool). list_any (λ (on : Bool). on) attached) h.attached
 
 or_left : (a b : Bool) → (a || b) ≡ false → a ≡ false
 or_left true b e = e
@@ -135,8 +160,8 @@ all_detached (port ∷ ports) e =
 
 -- ---- one turn
 
-module _ (dues : List Due) (model : Node) (moments_before moments_after : Option (List ℕ)) (now : ℕ) (before after : List PortState)
-    (given : GivesMoment moments_before moments_after now) where
+module _ (dues : List Due) (model : Node) (clock_before clock_after : ClockState) (now : ℕ) (before after : List PortState)
+    (read : ReadsMoment clock_before clock_after now) where
   abbrev turn_by : List Outcome → Turn
   turn_by used = record { moment = now; outcomes = used }
 
@@ -146,8 +171,8 @@ module _ (dues : List Due) (model : Node) (moments_before moments_after : Option
   abbrev behind_it : List Turn → Node → Course
   behind_it turns other = course (due_behind now dues) other turns
 
-  one_moment : (used : List Outcome) → GivesMoments moments_before moments_after (moments_of (turn_by used ∷ []))
-  one_moment used = (moments_after, given, refl)
+  one_moment : (used : List Outcome) → ReadsMoments clock_before clock_after (moments_of (turn_by used ∷ []))
+  one_moment used = (clock_after, read, refl)
 
   one_ports : (used : List Outcome) (taken : List Sending) → PortsWent 0 before after used taken
       → PortsWent 0 before after (outcomes_of (turn_by used ∷ [])) taken
@@ -162,7 +187,7 @@ module _ (dues : List Due) (model : Node) (moments_before moments_after : Option
 
     -- behind it a link is attached
     pub ran_one : (later_dues : List Due) → later_dues ≡ due_behind now dues → has_any_attached after ≡ true
-        → RanTo dues later_dues model live 1 moments_before moments_after before after old new
+        → RanTo dues later_dues model live 1 clock_before clock_after before after old new
     ran_one later_dues later e =
         let on : has_any_link h.node ≡ true = same_links live after h.node h.stands ∙ e in
         record {
@@ -176,6 +201,7 @@ module _ (dues : List Due) (model : Node) (moments_before moments_after : Option
               ∙ (ap (λ (any : Bool). course_behind h.lines (if any then behind_it turns h.node else is_over h.node turns)) on
               ∙ ap (λ (ds : List Due). course_behind h.lines (course ds h.node turns)) (sym later));
           stands = h.stands;
+          linked = λ before_it. e;
           takes = h.takes;
           moments = one_moment h.used;
           ports = one_ports h.used h.taken h.ports;
@@ -190,13 +216,14 @@ module _ (dues : List Due) (model : Node) (moments_before moments_after : Option
 
     -- behind it none is
     pub gone_one : (links : ℕ) → links ≡ length after → has_any_attached after ≡ false
-        → StopsIn (LinksGone links) 1 dues model moments_before moments_after before after old new
+        → StopsIn (LinksGone links) 1 dues model clock_before clock_after before after old new
     gone_one links counted e =
         let over = over_course e in
         record {
           turns = turn_by h.used ∷ [];
           taken = h.taken;
           takes = ap taken_in over ∙ h.takes;
+          attached = ap attached_in over ∙ h.stands.attached;
           moments = one_moment h.used;
           ports = one_ports h.used h.taken h.ports;
           ends = record {
@@ -209,62 +236,85 @@ module _ (dues : List Due) (model : Node) (moments_before moments_after : Option
         }
 
   -- what is so of a turn that is broken off, beside its ports and the sink
-  record BrokenTurn (c : Course) (taken : List Sending) (text : List ℕ) : Type 0 where
+  record BrokenTurn (c : Course) (taken : List Sending) (attached : List Bool) (text : List ℕ) : Type 0 where
     some : IsSome c
     takes : taken_in c ≡ taken
+    stays : attached_in c ≡ attached
     rest : List ℕ
     begins : journal c ≡ text ++ rest
 
   broken_goes : (node : Node) (lines : List NodeLine) (any : Bool)
-      → BrokenTurn (course_behind lines (if any then Runs node [] else is_over node [])) node.taken (lines_text lines)
+      → BrokenTurn (course_behind lines (if any then Runs node [] else is_over node [])) node.taken node.attached (lines_text lines)
   broken_goes node lines true = record {
     some = tt;
     takes = refl;
+    stays = refl;
     rest = end_text node.system.moment node.copies;
     begins = ap (λ (ls : List NodeLine). lines_text ls ++ end_text node.system.moment node.copies) (append-nil lines);
   }
   broken_goes node lines false = record {
     some = tt;
     takes = refl;
+    stays = refl;
     rest = [];
     begins = ap lines_text (append-nil lines) ∙ sym (append-nil (lines_text lines));
   }
 
-  broken_turn : (p : Played) → UsesAll p → BrokenTurn (behind_turn p [] (behind_it [])) (taken_by_then model p) (lines_text (lines_by p))
+  broken_turn : (p : Played) → UsesAll p → BrokenTurn (behind_turn p [] (behind_it [])) (taken_by_then model p) (attached_by_then model p)
+      (lines_text (lines_by p))
   broken_turn (Goes node [] lines) h = broken_goes node lines (has_any_link node)
   broken_turn (Goes node (outcome ∷ left) lines) h = absurd h
-  broken_turn (Ends node lines) h = record { some = tt; takes = refl; rest = []; begins = sym (append-nil (lines_text lines)) }
+  broken_turn (Ends node lines) h = record { some = tt; takes = refl; stays = refl; rest = []; begins = sym (append-nil (lines_text lines)) }
   broken_turn Strays h = absurd h
 
+  -- something is left to be written, where no link is attached behind a turn that had more
+  left_behind : (p : Played) (rest : List ℕ) → HasMore p rest → HasNoLink (behind_turn p [] (behind_it [])) → 0 < length rest
+  left_behind (Goes node [] lines) rest (inl on) none = absurd (rw on at none)
+  left_behind (Goes node [] lines) rest (inr some) none = some
+  left_behind (Goes node (outcome ∷ left) lines) rest h none = absurd none
+  left_behind (Ends node lines) rest h none = absurd none
+  left_behind Strays rest h none = absurd h
+
   broken_ends : (stop : Stop) (run : Course) (turns : List Turn) (old new : Option (List ℕ)) → IsBrokenOff 1 run turns old new
-      → EndsAs (Err (broken_by stop)) 1 run turns after old new
-  broken_ends broken.WriteFault run turns old new h = h
-  broken_ends broken.NoMemory run turns old new h = h
+      → (stop ≡ broken.NoMemory → has_any_attached before ≡ true → HasNoLink run → AppendsPart old new (journal run))
+      → EndsAs (Err (broken_by stop)) 1 run turns before after old new
+  broken_ends broken.WriteFault run turns old new h k = h
+  broken_ends broken.NoMemory run turns old new h k = record { broken = h; unfinished = k refl }
+
+  excused_not : (stop : Stop) (M : Type 0) → ((stop ≡ broken.WriteFault) ⊎ (has_any_attached before ≡ false)) ⊎ M
+      → stop ≡ broken.NoMemory → has_any_attached before ≡ true → M
+  excused_not stop M (inl (inl fault)) memory on = let bad = sym fault ∙ memory in absurd (cc)
+  excused_not stop M (inl (inr off)) memory on = let bad = sym off ∙ on in absurd (cc)
+  excused_not stop M (inr more) memory on = more
 
   -- it was broken off
-  pub broken_one : (stop : Stop) (old new : Option (List ℕ)) → plays.Breaks plays_turn model before after old new
-      → StopsIn (broken_by stop) 1 dues model moments_before moments_after before after old new
+  pub broken_one : (stop : Stop) (old new : Option (List ℕ))
+      → plays.Breaks ((stop ≡ broken.WriteFault) ⊎ (has_any_attached before ≡ false)) plays_turn model before after old new
+      → StopsIn (broken_by stop) 1 dues model clock_before clock_after before after old new
   broken_one stop old new b =
       let t = broken_turn (plays_turn b.used) b.uses in
+      let whole = t.begins ∙ (ap (λ (text : List ℕ). text ++ t.rest) b.text ∙ append_assoc b.front b.rest t.rest) in
       record {
         turns = turn_by b.used ∷ [];
         taken = b.taken;
         takes = t.takes ∙ b.takes;
+        attached = t.stays ∙ b.attached;
         moments = one_moment b.used;
         ports = one_ports b.used b.taken b.ports;
         ends = broken_ends stop (course dues model (turn_by b.used ∷ [])) (turn_by b.used ∷ []) old new (record {
           within = omega arith;
           some = t.some;
           written = front_as old new (journal (course dues model (turn_by b.used ∷ []))) b.front (b.rest ++ t.rest)
-              (t.begins ∙ (ap (λ (text : List ℕ). text ++ t.rest) b.text ∙ append_assoc b.front b.rest t.rest)) b.written;
-        });
+              whole b.written;
+        }) (λ memory on none. part_of old new (journal (course dues model (turn_by b.used ∷ []))) b.front b.rest t.rest whole b.written
+            (left_behind (plays_turn b.used) b.rest (excused_not stop (HasMore (plays_turn b.used) b.rest) b.more memory on) none));
       }
 
 -- ---- turns behind turns
 
-pub ran_nothing : (dues : List Due) (model : Node) (live : LiveNode) (moments : Option (List ℕ)) (ports : List PortState) (old : Option (List ℕ))
-    → Stands live ports model → RanTo dues dues model live 0 moments moments ports ports old old
-ran_nothing dues model live moments ports old h = record {
+pub ran_nothing : (dues : List Due) (model : Node) (live : LiveNode) (clock : ClockState) (ports : List PortState) (old : Option (List ℕ))
+    → Stands live ports model → RanTo dues dues model live 0 clock clock ports ports old old
+ran_nothing dues model live clock ports old h = record {
   turns = [];
   counted = refl;
   node = model;
@@ -272,13 +322,14 @@ ran_nothing dues model live moments ports old h = record {
   taken = [];
   runs = λ later. sym (course_nothing (course dues model later));
   stands = h;
+  linked = λ on. on;
   takes = sym (append-nil model.taken);
   moments = refl;
   ports = ports_same 0 ports;
   written = Appends-nil old;
 }
 
-module _ (dues between_dues : List Due) (model : Node) (live : LiveNode) (count : ℕ) (first between last : Option (List ℕ))
+module _ (dues between_dues : List Due) (model : Node) (live : LiveNode) (count : ℕ) (first between last : ClockState)
     (before mid after : List PortState) (old written new : Option (List ℕ))
     (h : RanTo dues between_dues model live count first between before mid old written) where
   pub ran_more : (later_dues : List Due) (other : LiveNode)
@@ -298,6 +349,7 @@ module _ (dues between_dues : List Due) (model : Node) (live : LiveNode) (count 
             ∙ (ap (course_behind h.lines) (k.runs later)
             ∙ course_both h.lines k.lines (course later_dues k.node later)));
         stands = k.stands;
+        linked = λ on. k.linked (h.linked on);
         takes = k.takes ∙ (ap (λ sent. sent ++ k.taken) h.takes ∙ append_assoc model.taken h.taken k.taken);
         moments = turns_moments first between last h.turns k.turns h.moments k.moments;
         ports = turns_ports before mid after h.turns k.turns h.taken k.taken h.ports k.ports;
@@ -313,10 +365,15 @@ module _ (dues between_dues : List Due) (model : Node) (live : LiveNode) (count 
         (front_behind old written new (lines_text h.lines) (journal run) h.written b.written);
   }
 
-  ends_behind : (stop : RunStop) (most : ℕ) (run : Course) (turns : List Turn) → count + 1 ≤ most → EndsAs (Err stop) 1 run turns after written new
-      → EndsAs (Err stop) most (course_behind h.lines run) (h.turns ++ turns) after old new
+  ends_behind : (stop : RunStop) (most : ℕ) (run : Course) (turns : List Turn) → count + 1 ≤ most → EndsAs (Err stop) 1 run turns mid after written new
+      → EndsAs (Err stop) most (course_behind h.lines run) (h.turns ++ turns) before after old new
   ends_behind WriteFault most run turns le b = broken_behind most run turns le b
-  ends_behind NoMemory most run turns le b = broken_behind most run turns le b
+  ends_behind NoMemory most run turns le b = record {
+    broken = broken_behind most run turns le b.broken;
+    unfinished = λ on none.
+        subst (λ (text : List ℕ). AppendsPart old new text) (sym (journal_behind h.lines run b.broken.some))
+        (part_behind old written new (lines_text h.lines) (journal run) h.written (b.unfinished (h.linked on) (over_before h.lines run none)));
+  }
   ends_behind (LinksGone links) most run turns le e = record {
     within = omega (arith, le, h.counted, length-append h.turns turns, e.within);
     over = over_behind h.lines run e.over;
@@ -326,9 +383,9 @@ module _ (dues between_dues : List Due) (model : Node) (live : LiveNode) (count 
     gone = e.gone;
   }
 
-  ends_some : (stop : RunStop) (most : ℕ) (run : Course) (turns : List Turn) → EndsAs (Err stop) most run turns after written new → IsSome run
+  ends_some : (stop : RunStop) (most : ℕ) (run : Course) (turns : List Turn) → EndsAs (Err stop) most run turns mid after written new → IsSome run
   ends_some WriteFault most run turns b = b.some
-  ends_some NoMemory most run turns b = b.some
+  ends_some NoMemory most run turns b = b.broken.some
   ends_some (LinksGone links) most run turns e = over_some run e.over
 
   pub stops_behind : (stop : RunStop) (most : ℕ) → count + 1 ≤ most
@@ -341,11 +398,12 @@ module _ (dues between_dues : List Due) (model : Node) (live : LiveNode) (count 
       record {
         turns = h.turns ++ k.turns;
         taken = h.taken ++ k.taken;
+        attached = ap attached_in e ∙ (attached_behind h.lines run (ends_some stop 1 run k.turns k.ends) ∙ k.attached);
         takes = ap taken_in e
             ∙ (taken_behind h.lines run (ends_some stop 1 run k.turns k.ends)
             ∙ (k.takes ∙ (ap (λ sent. sent ++ k.taken) h.takes ∙ append_assoc model.taken h.taken k.taken)));
         moments = turns_moments first between last h.turns k.turns h.moments k.moments;
         ports = turns_ports before mid after h.turns k.turns h.taken k.taken h.ports k.ports;
-        ends = subst (λ (c : Course). EndsAs (Err stop) most c (h.turns ++ k.turns) after old new) (sym e)
+        ends = subst (λ (c : Course). EndsAs (Err stop) most c (h.turns ++ k.turns) before after old new) (sym e)
             (ends_behind stop most run k.turns le k.ends);
       }

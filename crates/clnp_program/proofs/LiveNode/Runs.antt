@@ -1,5 +1,5 @@
 -- Runs from their start to their end.
-use Rattle.std.proofs.Common.{◌≡◌, ◌≤◌, ◌∙◌, ℕ, List, [], ◌∷◌, ◌++◌, length, Option, Result, Ok, Err, OnErr, OnOk, IfErr, refl, sym, ap, subst, append-nil, arith}
+use Rattle.std.proofs.Common.{◌≡◌, ◌≤◌, ◌<◌, ◌^◌, ◌∙◌, Bool, ℕ, List, [], ◌∷◌, ◌++◌, length, Option, Result, Ok, Err, OnErr, OnOk, IfErr, refl, sym, ap, subst, append-nil, arith}
 use Rattle.std.specs.List.{AllByRecursion}
 use Rattle.std.specs.Io.KnownBytes.{Appends}
 use Rattle.std.proofs.KnownBytes.{Appends-trans}
@@ -13,15 +13,18 @@ use Rattle.frame_links.specs.ClnpBase.Streams.{AppendsFront}
 use Rattle.frame_links.specs.LinkBoard.Ports.{PortState}
 use Rattle.clnp_plan.specs.ScenarioPlan.Plan.{Plan}
 use Rattle.clnp_machine.specs.LiveModel.Lines.{lines_text}
-use Rattle.clnp_machine.specs.LiveModel.Node.{Node, Sending}
+use Rattle.clnp_machine.specs.LiveModel.Node.{Node, Outcome, Sending}
+use Rattle.clnp_machine.specs.LiveModel.Parts.{IfAny}
+use Rattle.clnp_machine.specs.LiveModel.Ports.{PortsGo}
 use Rattle.clnp_machine.specs.LiveModel.Turn.{Due, dues_from}
-use Rattle.clnp_machine.specs.LiveModel.Course.{Course, Runs, Transcript, Turn, course, first_node, journal, node_run, outcomes_of, run_of}
+use Rattle.clnp_machine.specs.LiveModel.Course.{Course, Runs, IsOver, Breaks, IsNone, Transcript, Turn, course, first_node, journal, node_run, outcomes_of, run_of}
 use Rattle.clnp_program.specs.declared.live_node.node.LiveNode.{LiveNode}
 use Rattle.clnp_program.specs.declared.live_node.run.RunStop.{RunStop}
 use Rattle.clnp_program.specs.declared.live_node.run.RunStop.TheVariants.{WriteFault, LinksGone, NoMemory}
+use Rattle.clnp_program.specs.LiveNode.Clocks.{ClockState, ReadsMoment, clock_of}
 use Rattle.clnp_program.specs.LiveNode.Links.{PortsWent}
 use Rattle.clnp_program.specs.LiveNode.Plays.{attached_of}
-use Rattle.clnp_program.specs.LiveNode.Ran.{EndsAs, IsBroken, IsBrokenOff, IsSome, IsWhole, RanOf, RanTo, StopsIn, taken_in}
+use Rattle.clnp_program.specs.LiveNode.Ran.{EndsAs, HasNoLink, IsBroken, IsBrokenOff, IsOutOfMemory, IsSome, IsWhole, RanOf, RanTo, StopsIn, attached_in, taken_in}
 use Rattle.clnp_program.proofs.LiveNode.Courses.{front_behind, front_none}
 use Rattle.clnp_program.proofs.LiveNode.Ports.{ports_same}
 
@@ -40,8 +43,42 @@ pub few_ports : (links : ℕ) (systems : List SystemConfiguration) → length sy
 few_ports links [] one h k = absurd (cc)
 few_ports links (system ∷ systems) one h k = omega (arith, few_by system.role system.ports h.0.ports, k.0)
 
+over_some : (c : Course) → HasNoLink c → IsSome c
+over_some (Runs node lines) h = absurd h
+over_some (IsOver node lines) h = tt
+over_some (Breaks node lines) h = absurd h
+over_some IsNone h = absurd h
+
+-- a run that stopped is one of its node
+stopped_some : (stop : RunStop) (most : ℕ) (run : Course) (turns : List Turn) (before after : List PortState) (old new : Option (List ℕ))
+    → EndsAs (Err stop) most run turns before after old new → IsSome run
+stopped_some WriteFault most run turns before after old new h = h.some
+stopped_some NoMemory most run turns before after old new h = h.broken.some
+stopped_some (LinksGone links) most run turns before after old new h = over_some run h.over
+
+not_over : (run : Course) → IsWhole run → HasNoLink run → ⊥
+not_over (Runs node lines) w none = none
+not_over (IsOver node lines) w none = w
+not_over (Breaks node lines) w none = w
+not_over IsNone w none = w
+
+-- the ports went on as those that are attached at the end of a run say
+ports_by : (c : Course) (before after : List Bool) (outcomes : List Outcome) → IsSome c → attached_in c ≡ after
+    → IfAny c (λ last lines. PortsGo before last.attached outcomes) → PortsGo before after outcomes
+ports_by (Runs node lines) before after outcomes some e h = subst (λ (attached : List Bool). PortsGo before attached outcomes) e h
+ports_by (IsOver node lines) before after outcomes some e h = subst (λ (attached : List Bool). PortsGo before attached outcomes) e h
+ports_by (Breaks node lines) before after outcomes some e h = subst (λ (attached : List Bool). PortsGo before attached outcomes) e h
+ports_by IsNone before after outcomes some e h = absurd some
+
+-- what one reading of a clock ensures
+pub read_once : {before after : Option (List ℕ)} {earlier later moment : ℕ} → GivesMoment before after moment → earlier ≤ moment
+    → moment < 2 ^ 62 → later ≡ moment → ReadsMoment (clock_of before earlier) (clock_of after later) moment
+read_once given later early kept = record { given = given; later = later; early = early; kept = kept }
+
 module _ (plan : Plan) (system : SystemConfiguration) (only : plan.systems ≡ system ∷ []) (most start : ℕ) (before : List PortState)
-    (first second : Option (List ℕ)) (given : GivesMoment first second start) where
+    (first second : ClockState) (read : ReadsMoment first second start)
+    (failed : (dues : List Due) (node : Node) (turns : List Turn)
+    → IfAny (course dues node turns) (λ last lines. PortsGo node.attached last.attached (outcomes_of turns))) where
   abbrev starts : Node
   starts = first_node plan.limits system start (attached_of before)
 
@@ -55,21 +92,24 @@ module _ (plan : Plan) (system : SystemConfiguration) (only : plan.systems ≡ s
   run_is turns = ap (λ (systems : List SystemConfiguration). run_of plan systems (attached_of before) (over turns)) only
 
   -- a run came to an end in one of its turns
-  pub ran_stopped : (stop : RunStop) (last : Option (List ℕ)) (after : List PortState) (old new : Option (List ℕ))
+  pub ran_stopped : (stop : RunStop) (last : ClockState) (after : List PortState) (old new : Option (List ℕ))
       → StopsIn stop most dues starts second last before after old new → RanOf plan most first last before after old new (Err stop)
   ran_stopped stop last after old new h = record {
     transcript = over h.turns;
-    moments = (second, given, h.moments);
+    moments = (second, read, h.moments);
     ports = subst (λ (taken : List Sending). PortsWent 0 before after (outcomes_of h.turns) taken)
         (sym (ap taken_in (run_is h.turns) ∙ h.takes)) h.ports;
-    ends = subst (λ (run : Course). EndsAs (Err stop) most run h.turns after old new) (sym (run_is h.turns)) h.ends;
+    attached = ap attached_in (run_is h.turns) ∙ h.attached;
+    failures = ports_by (course dues starts h.turns) (attached_of before) (attached_of after) (outcomes_of h.turns)
+        (stopped_some stop most (course dues starts h.turns) h.turns before after old new h.ends) h.attached (failed dues starts h.turns);
+    ends = subst (λ (run : Course). EndsAs (Err stop) most run h.turns before after old new) (sym (run_is h.turns)) h.ends;
   }
 
   broken_by_end : (stop : RunStop) → IsBroken stop → (run : Course) (turns : List Turn) (after : List PortState) (old new : Option (List ℕ))
-      → IsBrokenOff most run turns old new → EndsAs (Err stop) most run turns after old new
-  broken_by_end WriteFault b run turns after old new h = h
-  broken_by_end NoMemory b run turns after old new h = h
-  broken_by_end (LinksGone links) b run turns after old new h = absurd b
+      → IsWhole run → IsBrokenOff most run turns old new → EndsAs (Err stop) most run turns before after old new
+  broken_by_end WriteFault b run turns after old new w h = h
+  broken_by_end NoMemory b run turns after old new w h = record { broken = h; unfinished = λ on none. absurd (not_over run w none) }
+  broken_by_end (LinksGone links) b run turns after old new w h = absurd b
 
   -- it didn't begin
   pub ran_nowhere : (old : Option (List ℕ)) → RanOf plan most first second before before old old (Err NoMemory)
@@ -77,13 +117,18 @@ module _ (plan : Plan) (system : SystemConfiguration) (only : plan.systems ≡ s
       let e = run_is [] in
       record {
         transcript = over [];
-        moments = (second, given, refl);
+        moments = (second, read, refl);
         ports = subst (λ (run : Course). PortsWent 0 before before [] (taken_in run)) (sym e) (ports_same 0 before);
-        ends = subst (λ (run : Course). IsBrokenOff most run [] old old) (sym e)
-            (record { within = omega arith; some = tt; written = front_none old (journal (course dues starts [])) });
+        attached = ap attached_in e;
+        failures = failed dues starts [];
+        ends = subst (λ (run : Course). IsOutOfMemory most run [] before old old) (sym e)
+            (record {
+              broken = record { within = omega arith; some = tt; written = front_none old (journal (course dues starts [])) };
+              unfinished = λ on none. absurd none;
+            });
       }
 
-  module _ (live : LiveNode) (later : List Due) (last : Option (List ℕ)) (after : List PortState) (old mid new : Option (List ℕ))
+  module _ (live : LiveNode) (later : List Due) (last : ClockState) (after : List PortState) (old mid new : Option (List ℕ))
       (h : RanTo dues later starts live most second last before after old mid) where
     whole_course : node_run plan (attached_of before) (over h.turns) ≡ Runs h.node h.lines
     whole_course =
@@ -94,6 +139,16 @@ module _ (plan : Plan) (system : SystemConfiguration) (only : plan.systems ≡ s
     whole_ports : PortsWent 0 before after (outcomes_of h.turns) (taken_in (node_run plan (attached_of before) (over h.turns)))
     whole_ports =
         subst (λ (taken : List Sending). PortsWent 0 before after (outcomes_of h.turns) taken) (sym (ap taken_in whole_course ∙ h.takes)) h.ports
+
+    whole_attached : attached_in (node_run plan (attached_of before) (over h.turns)) ≡ attached_of after
+    whole_attached = ap attached_in whole_course ∙ h.stands.attached
+
+    whole_failures : PortsGo (attached_of before) (attached_of after) (outcomes_of h.turns)
+    whole_failures =
+        let run = course dues starts h.turns in
+        ports_by run (attached_of before) (attached_of after) (outcomes_of h.turns)
+        (subst IsSome (sym (sym (run_is h.turns) ∙ whole_course)) tt)
+        (ap attached_in (sym (run_is h.turns)) ∙ whole_attached) (failed dues starts h.turns)
 
     end_is : end_text h.node.system.moment h.node.copies ≡ end_text live.now live.copies
     end_is =
@@ -111,8 +166,10 @@ module _ (plan : Plan) (system : SystemConfiguration) (only : plan.systems ≡ s
         → RanOf plan most first last before after old new result
     ran_ended (Ok done) written front stops = record {
       transcript = over h.turns;
-      moments = (second, given, h.moments);
+      moments = (second, read, h.moments);
       ports = whole_ports;
+      attached = whole_attached;
+      failures = whole_failures;
       ends = record {
         counted = h.counted;
         whole = subst IsWhole (sym whole_course) tt;
@@ -122,12 +179,15 @@ module _ (plan : Plan) (system : SystemConfiguration) (only : plan.systems ≡ s
     }
     ran_ended (Err stop) written front stops = record {
       transcript = over h.turns;
-      moments = (second, given, h.moments);
+      moments = (second, read, h.moments);
       ports = whole_ports;
-      ends = broken_by_end stop stops (node_run plan (attached_of before) (over h.turns)) h.turns after old new (record {
-        within = omega (arith, h.counted);
-        some = subst IsSome (sym whole_course) tt;
-        written = subst (λ (text : List ℕ). AppendsFront old new text) (sym journal_is)
-            (front_behind old mid new (lines_text h.lines) (end_text live.now live.copies) h.written front);
-      });
+      attached = whole_attached;
+      failures = whole_failures;
+      ends = broken_by_end stop stops (node_run plan (attached_of before) (over h.turns)) h.turns after old new
+          (subst IsWhole (sym whole_course) tt) (record {
+            within = omega (arith, h.counted);
+            some = subst IsSome (sym whole_course) tt;
+            written = subst (λ (text : List ℕ). AppendsFront old new text) (sym journal_is)
+                (front_behind old mid new (lines_text h.lines) (end_text live.now live.copies) h.written front);
+          });
     }

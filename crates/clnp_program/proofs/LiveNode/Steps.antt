@@ -1,11 +1,11 @@
 -- What one call on a port's link comes to, one output, and one thing that comes to the system.
-use Rattle.std.proofs.Common.{◌≡◌, ◌≢◌, ℕ, zero, suc, ◌+◌, ◌<◌, ◌≤◌, Bool, true, false, List, [], ◌∷◌, ◌++◌, length, drop, get_or, add-one, Option, Some, None, refl, sym, ap, ◌∙◌, subst, append-nil, arith}
+use Rattle.std.proofs.Common.{◌≡◌, ◌≢◌, inl, inr, ℕ, zero, suc, ◌+◌, ◌<◌, ◌≤◌, Bool, true, false, List, [], ◌∷◌, ◌++◌, length, drop, get_or, add-one, Option, Some, None, refl, sym, ap, ◌∙◌, subst, append-nil, arith}
 use Rattle.std.proofs.KnownBytes.{Appends-nil}
 use Rattle.std.proofs.lemmas.List.{length-map}
 use Rattle.std.proofs.lemmas.Option.{slice_get_past}
-use Rattle.std.specs.Prelude.{◌==◌, ◌-◌, slice_get, slice_set, if◌then◌else◌}
+use Rattle.std.specs.Prelude.{◌==◌, ◌-◌, ◌⊎◌, slice_get, slice_set, if◌then◌else◌}
 use Rattle.std.specs.Io.KnownBytes.{Appends}
-use Rattle.std.specs.List.{range_with_len}
+use Rattle.std.specs.List.{list_any, range_with_len}
 use Rattle.clnp_machine.proofs.ClnpBase.ListSteps.{map_set}
 use Rattle.clnp_machine.specs.ClnpPlan.Journal.{Noted, Transmitted}
 use Rattle.clnp_machine.specs.ClnpPlan.Configuration.{SystemConfiguration}
@@ -34,8 +34,10 @@ use Rattle.clnp_machine.specs.LiveModel.Parts.{UsesAll}
 use Rattle.clnp_program.specs.declared.live_node.node.LiveNode.{LiveNode}
 use Rattle.clnp_program.specs.LiveNode.Links.{LinkGoes, LinkWent, PortWent, PortsWent, looks_in}
 use Rattle.clnp_program.specs.LiveNode.Outputs.{GoesOut, PutAllOut, PutsOut}
-use Rattle.clnp_program.specs.LiveNode.Plays.{Breaks, Plays, Stands, attached_of, lines_by, taken_by_then}
-use Rattle.clnp_program.proofs.LiveNode.Breaking.{breaks_last, breaks_line, idle_output, idle_transmits}
+use Rattle.clnp_program.specs.LiveNode.Plays.{Breaks, HasMore, Plays, Stands, attached_by_then, attached_of, lines_by, taken_by_then}
+use Rattle.clnp_program.specs.LiveNode.Ran.{has_any_attached}
+use Rattle.clnp_program.proofs.LiveNode.Attached.{any_there}
+use Rattle.clnp_program.proofs.LiveNode.Breaking.{breaks_last, breaks_line, idle_output, idle_transmits, loss_some, noted_some, transmitted_some}
 use Rattle.clnp_program.proofs.LiveNode.Given.{gave_out}
 use Rattle.clnp_program.proofs.LiveNode.Playing.{appends_both, appends_line, plays_line}
 use Rattle.clnp_program.proofs.LiveNode.Ports.{OnlyAt, port_changed, ports_both, ports_same}
@@ -283,6 +285,12 @@ module _ (live : LiveNode) (board after : List PortState) (model : Node) (stands
       ≡ Goes (detached (counted model) sending.port) later ((transmission model sending ∷ []) ++ loss model sending.port ∷ [])
   failed_play on later = rw (link_of live board model sending.port stands, on, same sending.port) refl
 
+  attached_behind_loss : is_attached_at sending.port board ≡ true → ChangesPort sending.port board after Detaches
+      → (detached (counted model) sending.port).attached ≡ attached_of after
+  attached_behind_loss on change =
+      ap (λ bs. slice_set bs sending.port false) stands.attached
+      ∙ sym (ap attached_of change.others ∙ now_detached board sending.port change.new change.changed.attached)
+
   pub transmits_broken : is_attached_at sending.port board ≡ true → ChangesPort sending.port board after Detaches
       → Appends old mid (node_line_text (sent_line live name copies sending)) → Appends mid new (node_line_text (LinkGone live.now own sending.port))
       → Plays (transmits model sending) model (with_copies live copies) board after old new
@@ -298,8 +306,7 @@ module _ (live : LiveNode) (board after : List PortState) (model : Node) (stands
           now = stands.now;
           copies = count_is;
           polled = stands.polled;
-          attached = ap (λ bs. slice_set bs sending.port false) stands.attached
-              ∙ sym (ap attached_of change.others ∙ now_detached board sending.port change.new change.changed.attached);
+          attached = attached_behind_loss on change;
         };
         takes = sym (append-nil model.taken);
         ports = ports_broke board after sending.port on (SendFailed sending.port) (λ other. refl) change;
@@ -310,22 +317,25 @@ module _ (live : LiveNode) (board after : List PortState) (model : Node) (stands
       }
 
   -- its line is broken off
-  pub transmits_cut : AppendsFront old new (node_line_text (sent_line live name copies sending)) → Breaks (transmits model sending) model board board old new
-  transmits_cut written =
-      breaks_line (transmits model sending) model board old new (transmission model sending) (idle_transmits sending model)
-      (one_line (has_link model sending.port) (counted model) (transmission model sending))
-      (subst (λ (line : NodeLine). AppendsFront old new (node_line_text line)) line_is written)
+  pub transmits_cut : (P : Type 0) → AppendsFront old new (node_line_text (sent_line live name copies sending)) → P ⊎ (new ≡ old) → Breaks P (transmits model sending) model board board old new
+  transmits_cut P written left =
+      breaks_line P (transmits model sending) model board old new (transmission model sending) (idle_transmits sending model)
+      (one_line (has_link model sending.port) (counted model) (transmission model sending)) stands.attached
+      (transmitted_some model.system.moment model.system.configuration.name (number_behind model.copies) sending.port sending.frame.target sending.frame.octets)
+      (subst (λ (line : NodeLine). AppendsFront old new (node_line_text line)) line_is written) left
 
   -- or that of the link's loss
-  pub transmits_lost : is_attached_at sending.port board ≡ true → ChangesPort sending.port board after Detaches
+  pub transmits_lost : (P : Type 0) → is_attached_at sending.port board ≡ true → ChangesPort sending.port board after Detaches
       → Appends old mid (node_line_text (sent_line live name copies sending)) → AppendsFront mid new (node_line_text (LinkGone live.now own sending.port))
-      → Breaks (transmits model sending) model board after old new
-  transmits_lost on change first second =
-      breaks_last (transmits model sending) model (detached (counted model) sending.port) board after old mid new (SendFailed sending.port ∷ []) []
+      → P ⊎ (new ≡ mid) → Breaks P (transmits model sending) model board after old new
+  transmits_lost P on change first second left =
+      breaks_last P (transmits model sending) model (detached (counted model) sending.port) board after old mid new (SendFailed sending.port ∷ []) []
       (transmission model sending ∷ []) (loss model sending.port) (failed_play on []) (sym (append-nil model.taken))
+      (attached_behind_loss on change)
       (ports_broke board after sending.port on (SendFailed sending.port) (λ other. refl) change)
       (appends_line old mid (transmission model sending) (line_written mid first))
-      (subst (λ (line : NodeLine). AppendsFront mid new (node_line_text line)) (loss_is live board model own sending.port stands owned) second)
+      (loss_some model.system.moment model.system.configuration.name sending.port)
+      (subst (λ (line : NodeLine). AppendsFront mid new (node_line_text line)) (loss_is live board model own sending.port stands owned) second) left
 
 -- ---- an output goes out
 
@@ -363,16 +373,25 @@ module _ (live : LiveNode) (board : List PortState) (model : Node) (stands : Sta
       (subst (λ (line : NodeLine). Appends old new (node_line_text line)) (ap (λ n. Says (Noted live.now name n)) h ∙ note_is told) written)
 
   -- or it is broken off
-  pub note_cut : (note : Told) (other : machine.Output) → PutsOut (Note note) other → AppendsFront old new (node_line_text (Says (Noted live.now name note)))
-      → Breaks (puts_out model other) model board board old new
-  note_cut note (machine.Transmits port target packet) h written = absurd h
-  note_cut note (machine.SendsEsis port target value) h written = absurd h
-  note_cut note (machine.Notes told) h written =
-      breaks_line (puts_out model (machine.Notes told)) model board old new (Says (Noted model.system.moment model.system.configuration.name told))
-      (idle_output (machine.Notes told) model) refl
-      (subst (λ (line : NodeLine). AppendsFront old new (node_line_text line)) (ap (λ n. Says (Noted live.now name n)) h ∙ note_is told) written)
+  pub note_cut : (P : Type 0) (note : Told) (other : machine.Output) → PutsOut (Note note) other → AppendsFront old new (node_line_text (Says (Noted live.now name note)))
+      → P ⊎ (new ≡ old) → Breaks P (puts_out model other) model board board old new
+  note_cut P note (machine.Transmits port target packet) h written left = absurd h
+  note_cut P note (machine.SendsEsis port target value) h written left = absurd h
+  note_cut P note (machine.Notes told) h written left =
+      breaks_line P (puts_out model (machine.Notes told)) model board old new (Says (Noted model.system.moment model.system.configuration.name told))
+      (idle_output (machine.Notes told) model) refl stands.attached
+      (noted_some model.system.moment model.system.configuration.name told)
+      (subst (λ (line : NodeLine). AppendsFront old new (node_line_text line)) (ap (λ n. Says (Noted live.now name n)) h ∙ note_is told) written) left
 
 -- ---- a look
+
+-- a port that was looked at still has its link
+pub looked_linked : (board after : List PortState) (port : ℕ) (look : Option CameFrame) → is_attached_at port board ≡ true
+    → ChangesPort port board after (λ (a b : PortState). LooksAt a b look) → has_any_attached after ≡ true
+looked_linked board after port look on change =
+    ap (λ (attached : List Bool). list_any (λ (on : Bool). on) attached) (ap attached_of change.others
+    ∙ still_attached board port change.old change.new change.was (attached_there board port change.old change.was on) change.changed.attached)
+    ∙ any_there port board on
 
 -- a look at a port by an outcome of its own
 look_taken : (model : Node) (port : ℕ) → has_link model port ≡ true → (look : Option CameFrame) (later : List Outcome)
@@ -428,6 +447,11 @@ module _ (live : LiveNode) (board : List PortState) (model : Node) (port : ℕ) 
     failed_look : (later : List Outcome) → looks_at model port (LookFailed port ∷ later) ≡ Goes (detached model port) later ([] ++ loss model port ∷ [])
     failed_look later = rw (link_of live board model port stands, on, same port) refl
 
+    attached_behind_failure : ChangesPort port board after Detaches → (detached model port).attached ≡ attached_of after
+    attached_behind_failure change =
+        ap (λ bs. slice_set bs port false) stands.attached
+        ∙ sym (ap attached_of change.others ∙ now_detached board port change.new change.changed.attached)
+
     pub looks_broken : (old new : Option (List ℕ)) (name : List ℕ) → name ≡ (clnp_systems.configuration_of live.system).name
         → ChangesPort port board after Detaches → Appends old new (node_line_text (LinkGone live.now name port)) → Plays (looks_at model port) model live board after old new
     looks_broken old new name named change written =
@@ -442,8 +466,7 @@ module _ (live : LiveNode) (board : List PortState) (model : Node) (port : ℕ) 
             now = stands.now;
             copies = stands.copies;
             polled = stands.polled;
-            attached = ap (λ bs. slice_set bs port false) stands.attached
-                ∙ sym (ap attached_of change.others ∙ now_detached board port change.new change.changed.attached);
+            attached = attached_behind_failure change;
           };
           takes = sym (append-nil model.taken);
           ports = ports_broke board after port on (LookFailed port) (λ other. refl) change;
@@ -452,12 +475,13 @@ module _ (live : LiveNode) (board : List PortState) (model : Node) (port : ℕ) 
         }
 
     -- and its line is broken off
-    pub looks_lost : (old new : Option (List ℕ)) (name : List ℕ) → name ≡ (clnp_systems.configuration_of live.system).name
-        → ChangesPort port board after Detaches → AppendsFront old new (node_line_text (LinkGone live.now name port)) → Breaks (looks_at model port) model board after old new
-    looks_lost old new name named change written =
-        breaks_last (looks_at model port) model (detached model port) board after old old new (LookFailed port ∷ []) [] [] (loss model port)
-        (failed_look []) (sym (append-nil model.taken)) (ports_broke board after port on (LookFailed port) (λ other. refl) change) (Appends-nil old)
-        (subst (λ (line : NodeLine). AppendsFront old new (node_line_text line)) (loss_is live board model name port stands named) written)
+    pub looks_lost : (P : Type 0) (old new : Option (List ℕ)) (name : List ℕ) → name ≡ (clnp_systems.configuration_of live.system).name
+        → ChangesPort port board after Detaches → AppendsFront old new (node_line_text (LinkGone live.now name port)) → P ⊎ (new ≡ old) → Breaks P (looks_at model port) model board after old new
+    looks_lost P old new name named change written left =
+        breaks_last P (looks_at model port) model (detached model port) board after old old new (LookFailed port ∷ []) [] [] (loss model port)
+        (failed_look []) (sym (append-nil model.taken)) (attached_behind_failure change) (ports_broke board after port on (LookFailed port) (λ other. refl) change) (Appends-nil old)
+        (loss_some model.system.moment model.system.configuration.name port)
+        (subst (λ (line : NodeLine). AppendsFront old new (node_line_text line)) (loss_is live board model name port stands named) written) left
 
     -- what is seen is handed on
     pub looks_seen : (other : LiveNode) (last : List PortState) (old new : Option (List ℕ)) (frame : CameFrame)
@@ -478,11 +502,11 @@ module _ (live : LiveNode) (board : List PortState) (model : Node) (port : ℕ) 
           written = p.written;
         }
 
-    pub looks_seen_breaks : (last : List PortState) (old new : Option (List ℕ)) (frame : CameFrame)
+    pub looks_seen_breaks : (P : Type 0) (last : List PortState) (old new : Option (List ℕ)) (frame : CameFrame)
         → ChangesPort port board after (λ (a b : PortState). LooksAt a b (Some frame))
-        → (Stands live after model → Breaks (sees model port (Some frame)) model after last old new)
-        → Breaks (looks_at model port) model board last old new
-    looks_seen_breaks last old new frame change k =
+        → (Stands live after model → Breaks P (sees model port (Some frame)) model after last old new)
+        → Breaks P (looks_at model port) model board last old new
+    looks_seen_breaks P last old new frame change k =
         let b = k (stands_on (Some frame) change) in
         let same_play : sees model port (Some frame) b.used ≡ looks_at model port (Saw port (Some frame) ∷ b.used) =
         sym (look_taken model port (link_of live board model port stands ∙ on) (Some frame) b.used) in
@@ -494,6 +518,8 @@ module _ (live : LiveNode) (board : List PortState) (model : Node) (port : ℕ) 
           uses = subst UsesAll same_play b.uses;
           text = sym (ap (λ p. lines_text (lines_by p)) same_play) ∙ b.text;
           takes = sym (ap (λ p. taken_by_then model p) same_play) ∙ b.takes;
+          attached = sym (ap (λ p. attached_by_then model p) same_play) ∙ b.attached;
+          more = elim b.more [ inl p ↦ inl p | inr more ↦ inr (subst (λ (p : Played). HasMore p b.rest) same_play more) ];
           ports = ports_both 0 board after last (Saw port (Some frame) ∷ []) b.used [] b.taken (ports_looked board after port on (Some frame) change) b.ports;
           written = b.written;
         }

@@ -4,6 +4,7 @@ ghost use Rattle.clnp_base.specs.Streams.{Rose};
 ghost use Rattle.clnp_base.specs.CommandBase.ComesAs.{most_input};
 ghost use Rattle.clnp_program.specs.LiveCommands.Advised.{IsAdvised};
 ghost use Rattle.clnp_program.specs.LiveCommands.Serves.{RunEndsAs, ServesRun, TextComesTo};
+ghost use Rattle.clnp_program.specs.LiveNode.Clocks.{clock_of};
 ghost use Rattle.clnp_program.specs.LiveNode.Ran.{RanOf};
 ghost use Rattle.scenario.specs.ScenarioPlan.Plan.{IsForBoard};
 
@@ -35,7 +36,7 @@ pub fn run_system<S: Source, K: Sink, C: Clock, B: Ports>(
     ensures later { (S.faults source.old ≤ S.faults source.new) × (K.faults sink.old ≤ K.faults sink.new)
         × (C.last clock.old ≤ C.last clock.new) }
     ensures serves { ServesRun turns (S.left source.old) (S.left source.new) (K.written sink.old) (K.written sink.new)
-        (B.ports board.old) (B.ports board.new) (C.moments clock.old) (C.moments clock.new)
+        (B.ports board.old) (B.ports board.new) (clock_of (C.moments clock.old) (C.last clock.old)) (clock_of (C.moments clock.new) (C.last clock.new))
         ((sink.new ≡ sink.old) × ((board.new ≡ board.old) × (clock.new ≡ clock.old)))
         (Rose (S.faults source.old) (S.faults source.new)) (Rose (K.faults sink.old) (K.faults sink.new)) result }
     ensures advised { IsAdvised result advice.old advice.new }
@@ -62,7 +63,7 @@ fn run_text<K: Sink, C: Clock, B: Ports>(
     requires { length text.now ≤ most_input }
     ensures later { (K.faults sink.old ≤ K.faults sink.new) × (C.last clock.old ≤ C.last clock.new) }
     ensures comes_to { TextComesTo result text.now turns (K.written sink.old) (K.written sink.new)
-        (B.ports board.old) (B.ports board.new) (C.moments clock.old) (C.moments clock.new)
+        (B.ports board.old) (B.ports board.new) (clock_of (C.moments clock.old) (C.last clock.old)) (clock_of (C.moments clock.new) (C.last clock.new))
         ((sink.new ≡ sink.old) × ((board.new ≡ board.old) × (clock.new ≡ clock.old))) }
     ensures failed { result ≡ Status.WriteFault → Rose (K.faults sink.old) (K.faults sink.new) }
     ensures advised { IsAdvised result advice.old advice.new }
@@ -89,7 +90,7 @@ fn run_scenario<K: Sink, C: Clock, B: Ports>(
 ) -> Status
     requires { IsForBoard (length (B.ports board.old)) scenario.now }
     ensures later { (K.faults sink.old ≤ K.faults sink.new) × (C.last clock.old ≤ C.last clock.new) }
-    ensures ran { RunEndsAs result (RanOf scenario.now turns (C.moments clock.old) (C.moments clock.new)
+    ensures ran { RunEndsAs result (RanOf scenario.now turns (clock_of (C.moments clock.old) (C.last clock.old)) (clock_of (C.moments clock.new) (C.last clock.new))
         (B.ports board.old) (B.ports board.new)
         (K.written sink.old) (K.written sink.new)) }
     ensures failed { result ≡ Status.WriteFault → Rose (K.faults sink.old) (K.faults sink.new) }

@@ -1,5 +1,5 @@
 //! The lines of a node's journal: each is written at once.
-ghost use Rattle.std.specs.Prelude.{◌≡◌, ◌≤◌, OnOk, OnErr, IfOk, Err};
+ghost use Rattle.std.specs.Prelude.{◌≡◌, ◌≤◌, ◌⊎◌, OnOk, OnErr, IfErr, IfOk, Err};
 ghost use Rattle.std.specs.Io.KnownBytes.{Appends};
 ghost use Rattle.clnp_machine.specs.ClnpBase.Streams.{AppendsFront, Rose};
 ghost use Rattle.clnp_machine.specs.ClnpPlan.Journal.{Noted, Transmitted};
@@ -24,6 +24,7 @@ pub(crate) fn write_note<K: Sink>(
         (node_line_text (Says (Noted now name.now note.now)))) }
     ensures front { OnErr result (AppendsFront (K.written sink.old) (K.written sink.new)
         (node_line_text (Says (Noted now name.now note.now)))) }
+    ensures unwritten { IfErr result (λ stop. (stop ≡ Stop.WriteFault) ⊎ (K.written sink.new ≡ K.written sink.old)) }
     ensures later { K.faults sink.old ≤ K.faults sink.new }
     ensures failed { result ≡ Err Stop.WriteFault → Rose (K.faults sink.old) (K.faults sink.new) }
 {
@@ -49,6 +50,7 @@ pub(crate) fn write_transmission<K: Sink>(
         (node_line_text (Says (Transmitted now name.now copy port target frame.now)))) }
     ensures front { OnErr result (AppendsFront (K.written sink.old) (K.written sink.new)
         (node_line_text (Says (Transmitted now name.now copy port target frame.now)))) }
+    ensures unwritten { IfErr result (λ stop. (stop ≡ Stop.WriteFault) ⊎ (K.written sink.new ≡ K.written sink.old)) }
     ensures later { K.faults sink.old ≤ K.faults sink.new }
     ensures failed { result ≡ Err Stop.WriteFault → Rose (K.faults sink.old) (K.faults sink.new) }
 {
@@ -71,6 +73,7 @@ pub(crate) fn write_loss<K: Sink>(
         (node_line_text (LinkGone now name.now port))) }
     ensures front { OnErr result (AppendsFront (K.written sink.old) (K.written sink.new)
         (node_line_text (LinkGone now name.now port))) }
+    ensures unwritten { IfErr result (λ stop. (stop ≡ Stop.WriteFault) ⊎ (K.written sink.new ≡ K.written sink.old)) }
     ensures later { K.faults sink.old ≤ K.faults sink.new }
     ensures failed { result ≡ Err Stop.WriteFault → Rose (K.faults sink.old) (K.faults sink.new) }
 {
@@ -99,6 +102,7 @@ fn loss_text(alloc: Global, now: u64, name: &[u8], port: u8) -> Result<Vec<u8>, 
 fn write_line<K: Sink>(line: &[u8], sink: &mut K) -> Result<(), Stop>
     ensures written { OnOk result (Appends (K.written sink.old) (K.written sink.new) line.now) }
     ensures front { OnErr result (AppendsFront (K.written sink.old) (K.written sink.new) line.now) }
+    ensures unwritten { IfErr result (λ stop. (stop ≡ Stop.WriteFault) ⊎ (K.written sink.new ≡ K.written sink.old)) }
     ensures later { K.faults sink.old ≤ K.faults sink.new }
     ensures failed { result ≡ Err Stop.WriteFault → Rose (K.faults sink.old) (K.faults sink.new) }
 {

@@ -1,9 +1,10 @@
 //! Looks at ports.
-ghost use Rattle.std.specs.Prelude.{◌≡◌, ◌≤◌, ◌<◌, OnOk, OnErr, Err, Some, length};
+ghost use Rattle.std.specs.Prelude.{◌≡◌, ◌≤◌, ◌<◌, OnOk, IfErr, Err, Some, length, true};
 ghost use Rattle.clnp_machine.specs.ClnpBase.Streams.{Rose};
 ghost use Rattle.clnp_systems.specs.Stands as clnp_systems;
 ghost use Rattle.clnp_machine.specs.LiveModel.Node as model;
 ghost use Rattle.clnp_program.specs.LiveNode.Plays.{Breaks, Plays, Stands};
+ghost use Rattle.clnp_program.specs.LiveNode.Ran.{has_any_attached};
 
 use crate::live_node::lines::write_loss;
 use crate::live_node::node::{LiveNode, Stop};
@@ -29,8 +30,8 @@ impl LiveNode {
         ensures plays { OnOk result ((node : model.Node) → Stands self.old (B.ports board.old) node
             → Plays (model.looks_at_each node (model.ports_of node.attached)) node self.new (B.ports board.old) (B.ports board.new)
             (K.written sink.old) (K.written sink.new)) }
-        ensures breaks { OnErr result ((node : model.Node) → Stands self.old (B.ports board.old) node
-            → Breaks (model.looks_at_each node (model.ports_of node.attached)) node (B.ports board.old) (B.ports board.new)
+        ensures breaks { IfErr result (λ stop. (node : model.Node) → Stands self.old (B.ports board.old) node
+            → Breaks (stop ≡ Stop.WriteFault) (model.looks_at_each node (model.ports_of node.attached)) node (B.ports board.old) (B.ports board.new)
             (K.written sink.old) (K.written sink.new)) }
         ensures moment { OnOk result ((clnp_systems.entity_of self.new.system).moment ≡ (clnp_systems.entity_of self.old.system).moment) }
         ensures config { clnp_systems.configuration_of self.new.system ≡ clnp_systems.configuration_of self.old.system }
@@ -59,8 +60,8 @@ impl LiveNode {
         ensures plays { OnOk result ((node : model.Node) → Stands self.old (B.ports board.old) node
             → Plays (model.looks_at node port) node self.new (B.ports board.old) (B.ports board.new)
             (K.written sink.old) (K.written sink.new)) }
-        ensures breaks { OnErr result ((node : model.Node) → Stands self.old (B.ports board.old) node
-            → Breaks (model.looks_at node port) node (B.ports board.old) (B.ports board.new)
+        ensures breaks { IfErr result (λ stop. (node : model.Node) → Stands self.old (B.ports board.old) node
+            → Breaks (stop ≡ Stop.WriteFault) (model.looks_at node port) node (B.ports board.old) (B.ports board.new)
             (K.written sink.old) (K.written sink.new)) }
         ensures moment { OnOk result ((clnp_systems.entity_of self.new.system).moment ≡ (clnp_systems.entity_of self.old.system).moment) }
         ensures config { clnp_systems.configuration_of self.new.system ≡ clnp_systems.configuration_of self.old.system }
@@ -107,12 +108,13 @@ impl LiveNode {
         board: &mut B,
         sink: &mut K,
     ) -> Result<(), Stop>
-        requires { length octets.now ≤ 70000 }
+        requires short { length octets.now ≤ 70000 }
+        requires on { has_any_attached (B.ports board.old) ≡ true }
         ensures plays { OnOk result ((node : model.Node) → Stands self.old (B.ports board.old) node
             → Plays (model.sees node port (Some (record { from = from; to_group = group; octets = octets.now })))
             node self.new (B.ports board.old) (B.ports board.new) (K.written sink.old) (K.written sink.new)) }
-        ensures breaks { OnErr result ((node : model.Node) → Stands self.old (B.ports board.old) node
-            → Breaks (model.sees node port (Some (record { from = from; to_group = group; octets = octets.now })))
+        ensures breaks { IfErr result (λ stop. (node : model.Node) → Stands self.old (B.ports board.old) node
+            → Breaks (stop ≡ Stop.WriteFault) (model.sees node port (Some (record { from = from; to_group = group; octets = octets.now })))
             node (B.ports board.old) (B.ports board.new) (K.written sink.old) (K.written sink.new)) }
         ensures moment { OnOk result ((clnp_systems.entity_of self.new.system).moment ≡ (clnp_systems.entity_of self.old.system).moment) }
         ensures config { clnp_systems.configuration_of self.new.system ≡ clnp_systems.configuration_of self.old.system }

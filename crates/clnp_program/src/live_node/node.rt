@@ -1,12 +1,12 @@
 //! The system of a live node, and what comes to it.
-ghost use Rattle.std.specs.Prelude.{◌≡◌, ◌≤◌, ◌<◌, ◌^◌, ◌+◌, IfOk, OnOk, OnErr, Err, length};
+ghost use Rattle.std.specs.Prelude.{◌≡◌, ◌≤◌, ◌<◌, ◌^◌, ◌+◌, ◌⊎◌, IfErr, IfOk, OnOk, Err, length};
 ghost use Rattle.clnp_machine.specs.Content.{Content};
 ghost use Rattle.clnp_machine.specs.System.{first_state};
 ghost use Rattle.clnp_systems.specs.Stands as clnp_systems;
 ghost use Rattle.clnp_systems.specs.Steps.{Carries, MayCome, input_with, moment_at};
 ghost use Rattle.clnp_machine.specs.ClnpBase.Streams.{Rose};
 ghost use Rattle.clnp_machine.specs.LiveModel.Node as model;
-ghost use Rattle.clnp_program.specs.LiveNode.Plays.{Breaks, Plays, Stands};
+ghost use Rattle.clnp_program.specs.LiveNode.Plays.{Breaks, IsUnnoticed, Plays, Stands};
 
 use clnp_machine::system_plan::{Limits, SystemConfig};
 use clnp_systems::{Input, System};
@@ -75,8 +75,8 @@ impl LiveNode {
         ensures plays { OnOk result ((node : model.Node) (content : Content) → Stands self.old (B.ports board.old) node → Carries input.now content
             → Plays (model.comes node (input_with content input.now)) node self.new (B.ports board.old) (B.ports board.new)
             (K.written sink.old) (K.written sink.new)) }
-        ensures breaks { OnErr result ((node : model.Node) (content : Content) → Stands self.old (B.ports board.old) node → Carries input.now content
-            → Breaks (model.comes node (input_with content input.now)) node (B.ports board.old) (B.ports board.new)
+        ensures breaks { IfErr result (λ stop. (node : model.Node) (content : Content) → Stands self.old (B.ports board.old) node → Carries input.now content
+            → Breaks ((stop ≡ Stop.WriteFault) ⊎ IsUnnoticed node (input_with content input.now)) (model.comes node (input_with content input.now)) node (B.ports board.old) (B.ports board.new)
             (K.written sink.old) (K.written sink.new)) }
         ensures moment { OnOk result ((content : Content) → Carries input.now content → (clnp_systems.entity_of self.new.system).moment
             ≡ moment_at (input_with content input.now) (clnp_systems.entity_of self.old.system).moment) }

@@ -1,5 +1,5 @@
 //! What the system gives out: notes are written, and frames written and sent.
-ghost use Rattle.std.specs.Prelude.{◌≡◌, ◌≤◌, List, OnOk, OnErr, Err, length};
+ghost use Rattle.std.specs.Prelude.{◌≡◌, ◌≤◌, List, OnOk, IfErr, Err, length};
 ghost use Rattle.clnp_machine.specs.ClnpBase.Streams.{Rose};
 ghost use Rattle.clnp_machine.specs.System as machine;
 ghost use Rattle.clnp_machine.specs.LiveModel.Node as model;
@@ -26,9 +26,9 @@ impl LiveNode {
             → PutAllOut outputs.now others
             → Plays (model.puts_all_out node others) node self.new (B.ports board.old) (B.ports board.new)
             (K.written sink.old) (K.written sink.new)) }
-        ensures breaks { OnErr result ((node : model.Node) (others : List machine.Output) → Stands self.old (B.ports board.old) node
+        ensures breaks { IfErr result (λ stop. (node : model.Node) (others : List machine.Output) → Stands self.old (B.ports board.old) node
             → PutAllOut outputs.now others
-            → Breaks (model.puts_all_out node others) node (B.ports board.old) (B.ports board.new)
+            → Breaks (stop ≡ Stop.WriteFault) (model.puts_all_out node others) node (B.ports board.old) (B.ports board.new)
             (K.written sink.old) (K.written sink.new)) }
         ensures system { self.new.system ≡ self.old.system }
         ensures now { self.new.now ≡ self.old.now }
@@ -54,9 +54,9 @@ impl LiveNode {
             → PutsOut output.now other
             → Plays (model.puts_out node other) node self.new (B.ports board.old) (B.ports board.new)
             (K.written sink.old) (K.written sink.new)) }
-        ensures breaks { OnErr result ((node : model.Node) (other : machine.Output) → Stands self.old (B.ports board.old) node
+        ensures breaks { IfErr result (λ stop. (node : model.Node) (other : machine.Output) → Stands self.old (B.ports board.old) node
             → PutsOut output.now other
-            → Breaks (model.puts_out node other) node (B.ports board.old) (B.ports board.new)
+            → Breaks (stop ≡ Stop.WriteFault) (model.puts_out node other) node (B.ports board.old) (B.ports board.new)
             (K.written sink.old) (K.written sink.new)) }
         ensures system { self.new.system ≡ self.old.system }
         ensures now { self.new.now ≡ self.old.now }
@@ -87,8 +87,8 @@ impl LiveNode {
         ensures plays { OnOk result ((node : model.Node) → Stands self.old (B.ports board.old) node
             → Plays (model.transmits node (record { port = sending.now.port; frame = record { target = sending.now.to; octets = sending.now.frame } }))
             node self.new (B.ports board.old) (B.ports board.new) (K.written sink.old) (K.written sink.new)) }
-        ensures breaks { OnErr result ((node : model.Node) → Stands self.old (B.ports board.old) node
-            → Breaks (model.transmits node (record { port = sending.now.port; frame = record { target = sending.now.to; octets = sending.now.frame } }))
+        ensures breaks { IfErr result (λ stop. (node : model.Node) → Stands self.old (B.ports board.old) node
+            → Breaks (stop ≡ Stop.WriteFault) (model.transmits node (record { port = sending.now.port; frame = record { target = sending.now.to; octets = sending.now.frame } }))
             node (B.ports board.old) (B.ports board.new) (K.written sink.old) (K.written sink.new)) }
         ensures system { self.new.system ≡ self.old.system }
         ensures now { self.new.now ≡ self.old.now }

@@ -4,7 +4,6 @@ ghost use Rattle.std.specs.Io.KnownBytes.{Appends};
 ghost use Rattle.clnp_machine.specs.ClnpBase.Streams.{AppendsFront, Rose};
 ghost use Rattle.clnp_machine.specs.ClnpPlan.Configuration.{SystemConfiguration};
 ghost use Rattle.clnp_machine.specs.ClnpPlan.Journal.{end_text};
-ghost use Rattle.clnp_machine.specs.ClnpBase.Moments.{GivesMoment};
 ghost use Rattle.clnp_systems.specs.Stands as clnp_systems;
 ghost use Rattle.frame_links.specs.LinkBoard.Ports.{PortState};
 ghost use Rattle.clnp_machine.specs.LiveModel.Course.{first_node};
@@ -12,11 +11,13 @@ ghost use Rattle.clnp_machine.specs.LiveModel.Node as model;
 ghost use Rattle.clnp_machine.specs.LiveModel.Turn.{Due, dues_from};
 ghost use Rattle.clnp_program.specs.LiveNode.Agenda.{dues_of};
 ghost use Rattle.clnp_plan.specs.ScenarioPlan.Plan.{IsForBoard};
+ghost use Rattle.clnp_program.specs.LiveNode.Clocks.{ClockState, ReadsMoment, clock_of};
 ghost use Rattle.clnp_program.specs.LiveNode.Plays.{Stands, attached_of};
 ghost use Rattle.clnp_program.specs.LiveNode.Ran.{IsBroken, RanOf, RanTo, StopsIn, broken_by, has_any_attached};
 
 use crate::live_node::agenda::Agenda;
 use crate::live_node::node::{LiveNode, Stop};
+use clnp_machine::live_model::laws::a_port_is_detached_by_its_failure;
 use clnp_machine::system_plan::push_end;
 use clnp_plan::scenario_plan::Scenario;
 use frame_links::link_board::Ports;
@@ -59,12 +60,14 @@ pub fn run_node<K: Sink, C: Clock, B: Ports>(
 ) -> Result<(), RunStop>
     requires { IsForBoard (length (B.ports board.old)) scenario.now }
     ensures later { (K.faults sink.old ≤ K.faults sink.new) × (C.last clock.old ≤ C.last clock.new) }
-    ensures ran { RanOf scenario.now turns (C.moments clock.old) (C.moments clock.new) (B.ports board.old) (B.ports board.new)
+    ensures ran { RanOf scenario.now turns (clock_of (C.moments clock.old) (C.last clock.old)) (clock_of (C.moments clock.new) (C.last clock.new)) (B.ports board.old) (B.ports board.new)
         (K.written sink.old) (K.written sink.new) result }
     ensures failed { result ≡ Err RunStop.WriteFault → Rose (K.faults sink.old) (K.faults sink.new) }
 {
     // Its clause: what a scenario that was read says is fit to be run.
     scenario.is_fit();
+    // Its clauses: where a port is detached, its link failed.
+    a_port_is_detached_by_its_failure();
     let start = clock.now();
     let Ok(mut room) = room_for_a_frame(alloc) else {
         return Err(RunStop::NoMemory);
@@ -92,13 +95,15 @@ fn run_opened<K: Sink, C: Clock, B: Ports>(
     requires moment { (clnp_systems.entity_of live.old.system).moment ≤ C.last clock.old }
     requires board { IsForBoard (length (B.ports board.old)) scenario.now }
     requires room { 70000 ≤ length room.old }
-    ensures ran { (system : SystemConfiguration) (first : Option (List ℕ)) → scenario.now.systems ≡ system ∷ []
-        → GivesMoment first (C.moments clock.old) start
+    ensures ran { (system : SystemConfiguration) (first : ClockState) → scenario.now.systems ≡ system ∷ []
+        → ReadsMoment first (clock_of (C.moments clock.old) (C.last clock.old)) start
         → Stands live.old (B.ports board.old) (first_node scenario.now.limits system start (attached_of (B.ports board.old)))
-        → RanOf scenario.now turns first (C.moments clock.new) (B.ports board.old) (B.ports board.new) (K.written sink.old) (K.written sink.new) result }
+        → RanOf scenario.now turns first (clock_of (C.moments clock.new) (C.last clock.new)) (B.ports board.old) (B.ports board.new) (K.written sink.old) (K.written sink.new) result }
     ensures later { (K.faults sink.old ≤ K.faults sink.new) × (C.last clock.old ≤ C.last clock.new) }
     ensures failed { result ≡ Err RunStop.WriteFault → Rose (K.faults sink.old) (K.faults sink.new) }
 {
+    // Its clauses: where a port is detached, its link failed.
+    a_port_is_detached_by_its_failure();
     match run_turns(
         alloc, scenario, start, turns, live, board, clock, room, sink,
     ) {
@@ -144,10 +149,10 @@ fn run_turns<K: Sink, C: Clock, B: Ports>(
     requires board { IsForBoard (length (B.ports board.old)) scenario.now }
     requires room { 70000 ≤ length room.old }
     ensures ran { OnOk result ((node : model.Node) → Stands live.old (B.ports board.old) node
-        → (later : List Due) × RanTo (dues_from start scenario.now.events) later node live.new turns (C.moments clock.old) (C.moments clock.new)
+        → (later : List Due) × RanTo (dues_from start scenario.now.events) later node live.new turns (clock_of (C.moments clock.old) (C.last clock.old)) (clock_of (C.moments clock.new) (C.last clock.new))
         (B.ports board.old) (B.ports board.new) (K.written sink.old) (K.written sink.new)) }
     ensures stops { IfErr result (λ stop. (node : model.Node) → Stands live.old (B.ports board.old) node
-        → StopsIn stop turns (dues_from start scenario.now.events) node (C.moments clock.old) (C.moments clock.new)
+        → StopsIn stop turns (dues_from start scenario.now.events) node (clock_of (C.moments clock.old) (C.last clock.old)) (clock_of (C.moments clock.new) (C.last clock.new))
         (B.ports board.old) (B.ports board.new) (K.written sink.old) (K.written sink.new)) }
     ensures later { (K.faults sink.old ≤ K.faults sink.new) × (C.last clock.old ≤ C.last clock.new) }
     ensures failed { result ≡ Err RunStop.WriteFault → Rose (K.faults sink.old) (K.faults sink.new) }
@@ -190,10 +195,10 @@ fn run_turn<K: Sink, C: Clock, B: Ports>(
     requires counted { ports ≡ length (B.ports board.old) }
     ensures ran { OnOk result ((node : model.Node) → Stands live.old (B.ports board.old) node
         → RanTo (dues_of agenda.old scenario.now.events) (dues_of agenda.new scenario.now.events) node live.new 1
-        (C.moments clock.old) (C.moments clock.new)
+        (clock_of (C.moments clock.old) (C.last clock.old)) (clock_of (C.moments clock.new) (C.last clock.new))
         (B.ports board.old) (B.ports board.new) (K.written sink.old) (K.written sink.new)) }
     ensures stops { IfErr result (λ stop. (node : model.Node) → Stands live.old (B.ports board.old) node
-        → StopsIn stop 1 (dues_of agenda.old scenario.now.events) node (C.moments clock.old) (C.moments clock.new)
+        → StopsIn stop 1 (dues_of agenda.old scenario.now.events) node (clock_of (C.moments clock.old) (C.last clock.old)) (clock_of (C.moments clock.new) (C.last clock.new))
         (B.ports board.old) (B.ports board.new) (K.written sink.old) (K.written sink.new)) }
     ensures moment { OnOk result ((clnp_systems.entity_of live.new.system).moment ≤ C.last clock.new) }
     ensures ports { length (B.ports board.new) ≡ length (B.ports board.old) }

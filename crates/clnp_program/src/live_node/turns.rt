@@ -1,5 +1,5 @@
 //! Turns: the moment, the events that are due, and a look at each port.
-ghost use Rattle.std.specs.Prelude.{◌≡◌, ◌≤◌, ◌<◌, ◌^◌, [], ◌∷◌, OnOk, OnErr, Err, false, length};
+ghost use Rattle.std.specs.Prelude.{◌≡◌, ◌≤◌, ◌<◌, ◌^◌, [], ◌∷◌, ◌⊎◌, OnOk, IfErr, Err, false, length};
 ghost use Rattle.clnp_machine.specs.ClnpBase.Streams.{Rose};
 ghost use Rattle.clnp_machine.specs.ClnpOptions.Grammar.{FitsKind};
 ghost use Rattle.clnp_machine.specs.ClnpOptions.Parameter.{parameters};
@@ -10,6 +10,7 @@ ghost use Rattle.clnp_machine.specs.LiveModel.Node as model;
 ghost use Rattle.clnp_machine.specs.LiveModel.Turn.{asked_by, comes_at, due_behind, of_host, takes_turn};
 ghost use Rattle.clnp_program.specs.LiveNode.Agenda.{asks_by, dues_of};
 ghost use Rattle.clnp_program.specs.LiveNode.Plays.{Breaks, Plays, Stands};
+ghost use Rattle.clnp_program.specs.LiveNode.Ran.{has_any_attached};
 
 use crate::live_node::agenda::Agenda;
 use crate::live_node::node::{LiveNode, Stop};
@@ -46,8 +47,8 @@ impl LiveNode {
         ensures plays { OnOk result ((node : model.Node) → Stands self.old (B.ports board.old) node
             → Plays (takes_turn (comes_at now node.system.configuration.role (dues_of agenda.old scenario.now.events)) node) node self.new
             (B.ports board.old) (B.ports board.new) (K.written sink.old) (K.written sink.new)) }
-        ensures breaks { OnErr result ((node : model.Node) → Stands self.old (B.ports board.old) node
-            → Breaks (takes_turn (comes_at now node.system.configuration.role (dues_of agenda.old scenario.now.events)) node) node
+        ensures breaks { IfErr result (λ stop. (node : model.Node) → Stands self.old (B.ports board.old) node
+            → Breaks ((stop ≡ Stop.WriteFault) ⊎ (has_any_attached (B.ports board.old) ≡ false)) (takes_turn (comes_at now node.system.configuration.role (dues_of agenda.old scenario.now.events)) node) node
             (B.ports board.old) (B.ports board.new) (K.written sink.old) (K.written sink.new)) }
         ensures behind { OnOk result (dues_of agenda.new scenario.now.events ≡ due_behind now (dues_of agenda.old scenario.now.events)) }
         ensures moment { OnOk result ((clnp_systems.entity_of self.new.system).moment ≡ now) }
@@ -75,8 +76,8 @@ impl LiveNode {
         ensures plays { OnOk result ((node : model.Node) → Stands self.old (B.ports board.old) node
             → Plays (model.come_all node (comes_at now (clnp_systems.configuration_of self.old.system).role (dues_of agenda.old scenario.now.events))) node self.new
             (B.ports board.old) (B.ports board.new) (K.written sink.old) (K.written sink.new)) }
-        ensures breaks { OnErr result ((node : model.Node) → Stands self.old (B.ports board.old) node
-            → Breaks (model.come_all node (comes_at now (clnp_systems.configuration_of self.old.system).role (dues_of agenda.old scenario.now.events))) node
+        ensures breaks { IfErr result (λ stop. (node : model.Node) → Stands self.old (B.ports board.old) node
+            → Breaks ((stop ≡ Stop.WriteFault) ⊎ (has_any_attached (B.ports board.old) ≡ false)) (model.come_all node (comes_at now (clnp_systems.configuration_of self.old.system).role (dues_of agenda.old scenario.now.events))) node
             (B.ports board.old) (B.ports board.new) (K.written sink.old) (K.written sink.new)) }
         ensures behind { OnOk result (dues_of agenda.new scenario.now.events ≡ due_behind now (dues_of agenda.old scenario.now.events)) }
         ensures moment { OnOk result ((clnp_systems.entity_of self.new.system).moment ≡ now) }
@@ -104,8 +105,8 @@ impl LiveNode {
         ensures plays { OnOk result ((node : model.Node) → Stands self.old (B.ports board.old) node
             → Plays (model.come_all node (asks_by now (clnp_systems.configuration_of self.old.system).role (dues_of agenda.old scenario.now.events))) node self.new
             (B.ports board.old) (B.ports board.new) (K.written sink.old) (K.written sink.new)) }
-        ensures breaks { OnErr result ((node : model.Node) → Stands self.old (B.ports board.old) node
-            → Breaks (model.come_all node (asks_by now (clnp_systems.configuration_of self.old.system).role (dues_of agenda.old scenario.now.events))) node
+        ensures breaks { IfErr result (λ stop. (node : model.Node) → Stands self.old (B.ports board.old) node
+            → Breaks (stop ≡ Stop.WriteFault) (model.come_all node (asks_by now (clnp_systems.configuration_of self.old.system).role (dues_of agenda.old scenario.now.events))) node
             (B.ports board.old) (B.ports board.new) (K.written sink.old) (K.written sink.new)) }
         ensures behind { OnOk result (dues_of agenda.new scenario.now.events ≡ due_behind now (dues_of agenda.old scenario.now.events)) }
         ensures moment { OnOk result ((clnp_systems.entity_of self.new.system).moment ≡ (clnp_systems.entity_of self.old.system).moment) }
@@ -140,8 +141,8 @@ impl LiveNode {
         ensures plays { OnOk result ((node : model.Node) → Stands self.old (B.ports board.old) node
             → Plays (model.come_all node (asked_by (clnp_systems.configuration_of self.old.system).role event.now)) node self.new
             (B.ports board.old) (B.ports board.new) (K.written sink.old) (K.written sink.new)) }
-        ensures breaks { OnErr result ((node : model.Node) → Stands self.old (B.ports board.old) node
-            → Breaks (model.come_all node (asked_by (clnp_systems.configuration_of self.old.system).role event.now)) node
+        ensures breaks { IfErr result (λ stop. (node : model.Node) → Stands self.old (B.ports board.old) node
+            → Breaks (stop ≡ Stop.WriteFault) (model.come_all node (asked_by (clnp_systems.configuration_of self.old.system).role event.now)) node
             (B.ports board.old) (B.ports board.new) (K.written sink.old) (K.written sink.new)) }
         ensures moment { OnOk result ((clnp_systems.entity_of self.new.system).moment ≡ (clnp_systems.entity_of self.old.system).moment) }
         ensures config { clnp_systems.configuration_of self.new.system ≡ clnp_systems.configuration_of self.old.system }
@@ -193,8 +194,8 @@ impl LiveNode {
         ensures plays { OnOk result ((node : model.Node) → Stands self.old (B.ports board.old) node
             → Plays (model.come_all node (of_host (clnp_systems.configuration_of self.old.system).role (AsksToSend from to (octets_of body.now) ask.now))) node self.new
             (B.ports board.old) (B.ports board.new) (K.written sink.old) (K.written sink.new)) }
-        ensures breaks { OnErr result ((node : model.Node) → Stands self.old (B.ports board.old) node
-            → Breaks (model.come_all node (of_host (clnp_systems.configuration_of self.old.system).role (AsksToSend from to (octets_of body.now) ask.now))) node
+        ensures breaks { IfErr result (λ stop. (node : model.Node) → Stands self.old (B.ports board.old) node
+            → Breaks (stop ≡ Stop.WriteFault) (model.come_all node (of_host (clnp_systems.configuration_of self.old.system).role (AsksToSend from to (octets_of body.now) ask.now))) node
             (B.ports board.old) (B.ports board.new) (K.written sink.old) (K.written sink.new)) }
         ensures moment { OnOk result ((clnp_systems.entity_of self.new.system).moment ≡ (clnp_systems.entity_of self.old.system).moment) }
         ensures config { clnp_systems.configuration_of self.new.system ≡ clnp_systems.configuration_of self.old.system }
@@ -223,8 +224,8 @@ impl LiveNode {
         ensures plays { OnOk result ((node : model.Node) → Stands self.old (B.ports board.old) node
             → Plays (model.come_all node (AsksToSend from to (octets_of body.now) ask.now ∷ [])) node self.new
             (B.ports board.old) (B.ports board.new) (K.written sink.old) (K.written sink.new)) }
-        ensures breaks { OnErr result ((node : model.Node) → Stands self.old (B.ports board.old) node
-            → Breaks (model.come_all node (AsksToSend from to (octets_of body.now) ask.now ∷ [])) node
+        ensures breaks { IfErr result (λ stop. (node : model.Node) → Stands self.old (B.ports board.old) node
+            → Breaks (stop ≡ Stop.WriteFault) (model.come_all node (AsksToSend from to (octets_of body.now) ask.now ∷ [])) node
             (B.ports board.old) (B.ports board.new) (K.written sink.old) (K.written sink.new)) }
         ensures moment { OnOk result ((clnp_systems.entity_of self.new.system).moment ≡ (clnp_systems.entity_of self.old.system).moment) }
         ensures config { clnp_systems.configuration_of self.new.system ≡ clnp_systems.configuration_of self.old.system }
@@ -258,8 +259,8 @@ impl LiveNode {
         ensures plays { OnOk result ((node : model.Node) → Stands self.old (B.ports board.old) node
             → Plays (model.come_all node (AsksForEcho from to (octets_of body.now) ∷ [])) node self.new
             (B.ports board.old) (B.ports board.new) (K.written sink.old) (K.written sink.new)) }
-        ensures breaks { OnErr result ((node : model.Node) → Stands self.old (B.ports board.old) node
-            → Breaks (model.come_all node (AsksForEcho from to (octets_of body.now) ∷ [])) node
+        ensures breaks { IfErr result (λ stop. (node : model.Node) → Stands self.old (B.ports board.old) node
+            → Breaks (stop ≡ Stop.WriteFault) (model.come_all node (AsksForEcho from to (octets_of body.now) ∷ [])) node
             (B.ports board.old) (B.ports board.new) (K.written sink.old) (K.written sink.new)) }
         ensures moment { OnOk result ((clnp_systems.entity_of self.new.system).moment ≡ (clnp_systems.entity_of self.old.system).moment) }
         ensures config { clnp_systems.configuration_of self.new.system ≡ clnp_systems.configuration_of self.old.system }

@@ -3,6 +3,7 @@ use Rattle.std.proofs.Common.{◌≡◌, ◌∙◌, List, refl, ap, sym, subst, 
 use Rattle.clnp_machine.specs.LiveModel.Turn.{Due, dues_from}
 use Rattle.clnp_program.specs.LiveNode.Agenda.{dues_of}
 use Rattle.clnp_program.specs.declared.live_node.agenda.Agenda.{Agenda}
+use Rattle.clnp_program.specs.LiveNode.Clocks.{clock_of}
 use Rattle.clnp_program.specs.LiveNode.Ran.{RanTo}
 use Rattle.clnp_program.proofs.LiveNode.Courses.{ran_more, ran_nothing, stops_behind}
 use Rattle.clnp_program.proofs.live_node.run.run_turns.Goals as goal
@@ -18,11 +19,11 @@ loop-made-init g c = record {
       let events = c.args.scenario.now.events in
       let dues = dues_from c.args.start events in
       let ports = g.B.Ports.ports c.args.board.now in
-      let moments = g.C.Clock.moments c.args.clock.now in
+      let clock = clock_of (g.C.Clock.moments c.args.clock.now) (g.C.Clock.last c.args.clock.now) in
       let written = g.K.Sink.written c.args.sink.now in
-      subst (λ (later : List Due). RanTo dues later node c.args.live.now 0 moments moments ports ports written written)
+      subst (λ (later : List Due). RanTo dues later node c.args.live.now 0 clock clock ports ports written written)
       (sym (ap (λ (agenda : Agenda). dues_of agenda events) c.from-agenda.ensures))
-      (ran_nothing dues node c.args.live.now moments ports written h);
+      (ran_nothing dues node c.args.live.now clock ports written h);
 }
 
 pub loop-made-preserved : goal.loop-made-preserved

@@ -1,6 +1,6 @@
 -- The system takes a step, and what it gives out goes out.
 use Rattle.std.proofs.Common.{◌∙◌, List, ap, refl, sym, subst}
-use Rattle.std.proofs.lemmas.Result.{on_err_weaker, on_ok_weaker}
+use Rattle.std.proofs.lemmas.Result.{IfErr-weaker, on_ok_weaker}
 use Rattle.clnp_machine.specs.ClnpPlan.declared.output.Output.{Output}
 use Rattle.clnp_machine.specs.Content.{Content}
 use Rattle.clnp_machine.specs.Step.{step}
@@ -9,15 +9,17 @@ use Rattle.clnp_systems.specs.Steps.{Carries, TakesStep, input_with}
 use Rattle.clnp_systems.specs.declared.system.System.{System}
 use Rattle.clnp_machine.specs.LiveModel.Node.{Node, comes, puts_all_out}
 use Rattle.clnp_program.specs.LiveNode.Outputs.{PutAllOut}
-use Rattle.clnp_program.proofs.LiveNode.Breaking.{breaks_as, breaks_nothing, idle_comes, on_ok_there}
+use Rattle.clnp_program.proofs.LiveNode.Breaking.{breaks_as, breaks_for, breaks_nothing, idle_comes, more_comes, on_ok_there, unless_noticed}
 use Rattle.clnp_program.proofs.LiveNode.Playing.{plays_as}
 use Rattle.clnp_program.proofs.LiveNode.Steps.{step_gave, step_stands}
+use Rattle.std.proofs.Common.{inl}
 use Rattle.clnp_program.proofs.live_node.node.LiveNode.comes.Goals as goal
 
 pub returns-then-is_err-clause-breaks : goal.returns-then-is_err-clause-breaks
 returns-then-is_err-clause-breaks g c = λ node content h carries.
     let input = input_with content c.args.input.now in
-    breaks_nothing (comes node input) node (g.B.Ports.ports c.args.board.now) (g.K.Sink.written c.args.sink.now) (idle_comes input node)
+    breaks_nothing _ (comes node input) node (g.B.Ports.ports c.args.board.now) (g.K.Sink.written c.args.sink.now) (idle_comes input node) h.attached
+    (unless_noticed (more_comes node input))
 
 pub returns-clause-plays : goal.returns-clause-plays
 returns-clause-plays g c =
@@ -41,7 +43,7 @@ returns-clause-plays g c =
 
 pub returns-clause-breaks : goal.returns-clause-breaks
 returns-clause-breaks g c =
-    on_err_weaker c.put_all_out.result (λ breaks node content h carries.
+    IfErr-weaker c.put_all_out.result _ _ (λ stop breaks node content h carries.
     let took : (content : Content) → Carries c.args.input.now content
     → TakesStep (clnp_systems.role_of c.args.self.now.system) (input_with content c.args.input.now) (clnp_systems.entity_of c.args.self.now.system) (clnp_systems.entity_of c.step.new.self)
     c.new-outputs.result.items c.step.new.out.items
@@ -54,9 +56,9 @@ returns-clause-breaks g c =
     c.new-outputs.result.items c.step.new.out.items h (took content carries) (c.moment_behind-self.ensures content) in
     let gave = step_gave c.args.self.now c.step.new.self node (clnp_systems.role_of c.args.self.now.system) content c.args.input.now
     c.new-outputs.result.items c.step.new.out.items h.system c.new-outputs.ensures.items (took content carries) in
-    breaks_as (puts_all_out next effect.outputs) (comes node input) next node board (g.B.Ports.ports c.put_all_out.new.board)
+    breaks_as _ (puts_all_out next effect.outputs) (comes node input) next node board (g.B.Ports.ports c.put_all_out.new.board)
     (g.K.Sink.written c.args.sink.now) (g.K.Sink.written c.put_all_out.new.sink) (λ outcomes. refl) refl
-    (breaks next effect.outputs stands (subst (λ (os : List Output). PutAllOut os effect.outputs) (sym c.deref.ensures.value) gave)))
+    (breaks_for _ _ _ next _ _ _ _ inl (breaks next effect.outputs stands (subst (λ (os : List Output). PutAllOut os effect.outputs) (sym c.deref.ensures.value) gave))))
     c.put_all_out.ensures.breaks
 
 pub returns-clause-moment : goal.returns-clause-moment

@@ -1,5 +1,6 @@
 -- One event after another.
 use Rattle.std.proofs.Common.{◌≡◌, ◌≤◌, ◌<◌, ◌+◌, ◌∙◌, ℕ, List, ap, refl, sym, subst, drop, length, get_or, arith}
+use Rattle.std.proofs.lemmas.Result.{err_from_is_err_and}
 use Rattle.clnp_machine.specs.ClnpPlan.Configuration.{SystemConfiguration}
 use Rattle.clnp_machine.specs.System.{Input}
 use Rattle.clnp_systems.specs.Stands as clnp_systems
@@ -9,7 +10,7 @@ use Rattle.clnp_machine.specs.LiveModel.Node.{Node, Outcome, and_then, come_all}
 use Rattle.clnp_machine.specs.LiveModel.Turn.{Due, asked_by}
 use Rattle.clnp_program.specs.LiveNode.Agenda.{asks_by, dues_of}
 use Rattle.clnp_program.specs.declared.live_node.agenda.Agenda.{Agenda}
-use Rattle.clnp_program.proofs.LiveNode.Breaking.{breaks_as, breaks_first, breaks_next, idle_come_all, on_err}
+use Rattle.clnp_program.proofs.LiveNode.Breaking.{breaks_as, breaks_first, breaks_next, idle_come_all}
 use Rattle.clnp_program.proofs.LiveNode.Dues.{asks_next, asks_none, left_all, left_next, no_dues}
 use Rattle.clnp_program.proofs.LiveNode.Playing.{plays_to_end, plays_to_next, plays_to_start}
 use Rattle.clnp_program.proofs.LiveNode.Inputs.{come_next}
@@ -89,7 +90,8 @@ returns-then-now-agenda-clause-behind g c =
 
 pub returns-in_err-do_event-clause-breaks : goal.returns-in_err-do_event-clause-breaks
 returns-in_err-do_event-clause-breaks g c =
-    on_err c.from_residual.result (λ node h.
+    let p = err_from_is_err_and c.from_residual.result c.from_residual.ensures.1 in
+    rw (p.1, p.2) (λ node h.
     let i = c.loop-place.invariant in
     let events : List Event = c.args.scenario.now.events in
     let now = c.args.now in
@@ -104,11 +106,11 @@ returns-in_err-do_event-clause-breaks g c =
     subst (λ (n : ℕ). event ≡ get_or events n event) (sym i.next)
     (subst (λ (es : List Event). event ≡ get_or es c.loop-place.place event) c.events-events.ensures c.index-events-place.is) in
     let rest = asks_by now role (dues_of next events) in
-    breaks_next _ _ node _ _ _ _ _ _ _ (i.plays node h)
+    breaks_next _ _ _ node _ _ _ _ _ _ _ (i.plays node h)
     (λ other k.
-    breaks_as (λ (outcomes : List Outcome). and_then (come_all other (asked_by asked event) outcomes) (λ then left. come_all then rest left))
+    breaks_as _ (λ (outcomes : List Outcome). and_then (come_all other (asked_by asked event) outcomes) (λ then left. come_all then rest left))
     (come_all other (asks_by now role (dues_of agenda events))) other other _ _ _ _
     (λ outcomes. come_next (asks_by now role (dues_of agenda events)) (asked_by asked event) rest other outcomes
     (asks_next now agenda next events event due is within refl role asked (ap (λ (config : SystemConfiguration). config.role) i.config))) refl
-    (breaks_first (come_all other (asked_by asked event)) (λ (then : Node) (left : List Outcome). come_all then rest left) other _ _ _ _ (idle_come_all rest)
+    (breaks_first _ (come_all other (asked_by asked event)) (λ (then : Node) (left : List Outcome). come_all then rest left) other _ _ _ _ (idle_come_all rest)
     (c.in_err-do_event.ensures.breaks other k))))

@@ -1,5 +1,5 @@
 -- What an event asks.
-use Rattle.std.proofs.Common.{◌≡◌, List, [], ap, refl, rules, sym}
+use Rattle.std.proofs.Common.{[], ap, refl, sym}
 use Rattle.clnp_systems.specs.Stands as clnp_systems
 use Rattle.clnp_plan.specs.declared.scenario_plan.event.Event.{Event}
 use Rattle.clnp_machine.specs.LiveModel.Node.{Goes, come_all}

@@ -1,9 +1,10 @@
 -- One port after another.
 use Rattle.std.proofs.Common.{ℕ, ◌+◌, ◌-◌, List, ap, refl, sym, subst, ◌∙◌, arith}
 use Rattle.std.specs.List.{range_with_len}
+use Rattle.std.proofs.lemmas.Result.{err_from_is_err_and}
 use Rattle.clnp_machine.specs.LiveModel.Node.{Node, Outcome, looks_at, looks_at_each}
 use Rattle.clnp_program.specs.LiveNode.Plays.{PlaysTo}
-use Rattle.clnp_program.proofs.LiveNode.Breaking.{breaks_first, breaks_next, idle_looks, on_err}
+use Rattle.clnp_program.proofs.LiveNode.Breaking.{breaks_first, breaks_next, idle_looks}
 use Rattle.clnp_program.proofs.LiveNode.Playing.{plays_to_end, plays_to_next, plays_to_start}
 use Rattle.clnp_program.proofs.LiveNode.Steps.{all_ports, range_end, range_here}
 use Rattle.clnp_program.proofs.live_node.node.LiveNode.look_at_each.Goals as goal
@@ -50,11 +51,12 @@ returns-clause-plays g c = λ node h.
 
 pub returns-in_err-look_at-clause-breaks : goal.returns-in_err-look_at-clause-breaks
 returns-in_err-look_at-clause-breaks g c =
-    on_err c.from_residual.result (λ node h.
+    let p = err_from_is_err_and c.from_residual.result c.from_residual.ensures.1 in
+    rw (p.1, p.2) (λ node h.
     let n = c.args.ports in
     let p = c.loop-port.port in
     let rest = range_with_len (p + 1) (n - (p + 1)) in
-    breaks_next _ _ node _ _ _ _ _ _ _ (c.loop-port.invariant.plays node h)
+    breaks_next _ _ _ node _ _ _ _ _ _ _ (c.loop-port.invariant.plays node h)
     (λ other k. rw (range_here n p (omega (arith, c.loop-port-test.true)))
-    (breaks_first (looks_at other p) (λ (then : Node) (outcomes : List Outcome). looks_at_each then rest outcomes) other _ _ _ _ (idle_looks rest)
+    (breaks_first _ (looks_at other p) (λ (then : Node) (outcomes : List Outcome). looks_at_each then rest outcomes) other _ _ _ _ (idle_looks rest)
     (c.in_err-look_at.ensures.breaks other k))))

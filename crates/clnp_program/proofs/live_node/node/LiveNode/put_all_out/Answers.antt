@@ -1,8 +1,9 @@
 -- One output after another.
 use Rattle.std.proofs.Common.{◌+◌, List, drop, ap, refl, ◌∙◌, arith}
+use Rattle.std.proofs.lemmas.Result.{err_from_is_err_and}
 use Rattle.clnp_machine.specs.System as machine
 use Rattle.clnp_machine.specs.LiveModel.Node.{Node, Outcome, puts_all_out, puts_out}
-use Rattle.clnp_program.proofs.LiveNode.Breaking.{breaks_first, breaks_next, idle_outputs, on_err}
+use Rattle.clnp_program.proofs.LiveNode.Breaking.{breaks_first, breaks_next, idle_outputs}
 use Rattle.clnp_program.proofs.LiveNode.Playing.{plays_to_end, plays_to_next, plays_to_start}
 use Rattle.clnp_program.proofs.LiveNode.Steps.{goes_next, goes_no_more}
 use Rattle.clnp_program.proofs.live_node.node.LiveNode.put_all_out.Goals as goal
@@ -43,11 +44,12 @@ returns-clause-plays g c = λ node others h puts.
 
 pub returns-in_err-put_out-clause-breaks : goal.returns-in_err-put_out-clause-breaks
 returns-in_err-put_out-clause-breaks g c =
-    on_err c.from_residual.result (λ node others h puts.
+    let p = err_from_is_err_and c.from_residual.result c.from_residual.ensures.1 in
+    rw (p.1, p.2) (λ node others h puts.
     let i = c.loop-output.output-index in
     let next = goes_next c.args.outputs.now others i c.output-item.result puts c.output-item.is c.loop-output-test.true in
     let rest : List machine.Output = drop (i + 1) others in
-    breaks_next _ _ node _ _ _ _ _ _ _ (c.loop-output.invariant.plays node others h puts)
+    breaks_next _ _ _ node _ _ _ _ _ _ _ (c.loop-output.invariant.plays node others h puts)
     (λ other k. rw next.whole
-    (breaks_first (puts_out other next.other) (λ (then : Node) (outcomes : List Outcome). puts_all_out then rest outcomes) other _ _ _ _ (idle_outputs rest)
+    (breaks_first _ (puts_out other next.other) (λ (then : Node) (outcomes : List Outcome). puts_all_out then rest outcomes) other _ _ _ _ (idle_outputs rest)
     (c.in_err-put_out.ensures.breaks other next.other k next.puts))))

@@ -1,6 +1,6 @@
 -- A host is asked, and no router.
 use Rattle.std.proofs.Common.{◌∙◌, [], ◌∷◌, ap, refl, sym}
-use Rattle.std.proofs.lemmas.Result.{on_err_weaker, on_ok_weaker}
+use Rattle.std.proofs.lemmas.Result.{IfErr-weaker, on_ok_weaker}
 use Rattle.clnp_machine.specs.ClnpPlan.Configuration.{SystemConfiguration}
 use Rattle.clnp_machine.specs.ClnpPlan.declared.config.Role.{Role}
 use Rattle.clnp_machine.specs.System.{Input, AsksToSend}
@@ -31,8 +31,8 @@ returns-in-Host-clause-plays g c =
 pub returns-in-Host-clause-breaks : goal.returns-in-Host-clause-breaks
 returns-in-Host-clause-breaks g c =
     let asked : Input = AsksToSend c.args.from c.args.to (octets_of c.args.body.now) c.args.ask.now in
-    on_err_weaker c.send_unit.result (λ k node h.
-    breaks_as (come_all node (asked ∷ [])) (come_all node (of_host _ asked)) node node _ _ _ _
+    IfErr-weaker c.send_unit.result _ _ (λ stop k node h.
+    breaks_as _ (come_all node (asked ∷ [])) (come_all node (of_host _ asked)) node node _ _ _ _
     (λ outcomes. ap (λ (role : Role). come_all node (of_host role asked) outcomes)
     (ap (λ (config : SystemConfiguration). config.role) (sym c.config.ensures) ∙ (sym c.role.ensures ∙ c.in-Host.is))) refl
     (k node h)) c.send_unit.ensures.breaks

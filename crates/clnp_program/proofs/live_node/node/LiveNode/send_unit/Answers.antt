@@ -1,13 +1,14 @@
 -- A unit is asked for.
 use Rattle.std.proofs.Common.{◌∙◌, List, [], ◌∷◌, refl}
-use Rattle.std.proofs.lemmas.Result.{on_err_weaker, on_ok_weaker}
+use Rattle.std.proofs.lemmas.Result.{IfErr-weaker, on_ok_weaker}
 use Rattle.clnp_machine.specs.Content.{Unlabelled}
 use Rattle.clnp_machine.specs.System.{Input, AsksToSend}
 use Rattle.clnp_plan.specs.ScenarioPlan.Plan.{octets_of}
 use Rattle.clnp_machine.specs.LiveModel.Node.{come_all}
-use Rattle.clnp_program.proofs.LiveNode.Breaking.{breaks_as, breaks_nothing, idle_come_all}
+use Rattle.clnp_program.proofs.LiveNode.Breaking.{breaks_as, breaks_for, breaks_nothing, idle_come_all, more_asked, noticed, send_noticed}
 use Rattle.clnp_program.proofs.LiveNode.Playing.{plays_as}
 use Rattle.clnp_program.proofs.LiveNode.Inputs.{comes_as}
+use Rattle.std.proofs.Common.{inr}
 use Rattle.clnp_program.proofs.live_node.node.LiveNode.send_unit.Goals as goal
 
 pub returns-clause-plays : goal.returns-clause-plays
@@ -19,15 +20,16 @@ returns-clause-plays g c =
 
 pub returns-clause-breaks : goal.returns-clause-breaks
 returns-clause-breaks g c =
-    on_err_weaker c.comes.result (λ k node h.
-    breaks_as _ _ node node _ _ _ _
+    IfErr-weaker c.comes.result _ _ (λ stop k node h.
+    breaks_as _ _ _ node node _ _ _ _
     (λ outcomes. comes_as (λ octets. AsksToSend c.args.from c.args.to octets c.args.ask.now) node outcomes (c.deref.ensures.value ∙ c.in-Ok.ensures)) refl
-    (k node (Unlabelled []) h tt)) c.comes.ensures.breaks
+    (breaks_for _ _ _ node _ _ _ _ (noticed (send_noticed node _ _ _ _)) (k node (Unlabelled []) h tt))) c.comes.ensures.breaks
 
 pub returns-in_default-clause-breaks : goal.returns-in_default-clause-breaks
 returns-in_default-clause-breaks g c = λ node h.
     let asked : List Input = AsksToSend c.args.from c.args.to (octets_of c.args.body.now) c.args.ask.now ∷ [] in
-    breaks_nothing (come_all node asked) node _ _ (idle_come_all asked node)
+    breaks_nothing _ (come_all node asked) node _ _ (idle_come_all asked node) h.attached
+    (inr (more_asked node (AsksToSend c.args.from c.args.to (octets_of c.args.body.now) c.args.ask.now) (send_noticed node c.args.from c.args.to (octets_of c.args.body.now) c.args.ask.now)))
 
 pub returns-clause-moment : goal.returns-clause-moment
 returns-clause-moment g c = on_ok_weaker c.comes.result (λ k. k (Unlabelled []) tt) c.comes.ensures.moment

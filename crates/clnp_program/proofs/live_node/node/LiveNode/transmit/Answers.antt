@@ -1,22 +1,19 @@
 -- A frame is written, and sent where its port has its link.
-use Rattle.std.proofs.Common.{◌≡◌, ◌∙◌, ℕ, true, false, List, ap, sym, subst, arith, append-nil}
-use Rattle.std.proofs.lemmas.Result.{on_err_weaker, on_ok_weaker}
-use Rattle.std.specs.Io.KnownBytes.{Appends}
+use Rattle.std.proofs.Common.{◌≡◌, ◌∙◌, ℕ, true, false, List, ap, sym, subst, arith}
+use Rattle.std.proofs.lemmas.Result.{err_from_is_err_and, on_ok_weaker}
 use Rattle.clnp_machine.specs.ClnpPlan.Configuration.{SystemConfiguration}
-use Rattle.clnp_machine.specs.ClnpPlan.Journal.{Transmitted}
 use Rattle.clnp_systems.specs.Stands as clnp_systems
-use Rattle.frame_links.specs.ClnpBase.Streams.{AppendsFront}
 use Rattle.frame_links.specs.LinkBoard.Ports.{ChangesPort, Detaches, PortState, SendsOn, is_attached_at}
-use Rattle.clnp_machine.specs.LiveModel.Lines.{Says, node_line_text}
-use Rattle.clnp_machine.specs.LiveModel.Node.{transmits}
-use Rattle.clnp_program.proofs.LiveNode.Breaking.{on_err}
+use Rattle.clnp_program.specs.declared.live_node.node.Stop.TheVariants as stops
+use Rattle.clnp_program.proofs.LiveNode.Breaking.{if_err_with}
 use Rattle.clnp_program.proofs.LiveNode.Steps.{past_end, sending_of, transmits_alone, transmits_broken, transmits_cut, transmits_lost, transmits_taken}
 use Rattle.clnp_program.proofs.live_node.node.LiveNode.transmit.Goals.{then-port-count-via-then-port-count, then-port-count-via-else-port-count+then-not-is_attached}
 use Rattle.clnp_program.proofs.live_node.node.LiveNode.transmit.Goals as goal
 
 pub returns-in_err-write_transmission-clause-breaks : goal.returns-in_err-write_transmission-clause-breaks
 returns-in_err-write_transmission-clause-breaks g c =
-    on_err c.from_residual.result (λ node h.
+    let p = err_from_is_err_and c.from_residual.result c.from_residual.ensures.1 in
+    rw (p.1, p.2) (λ node h.
     let live = c.args.self.now in
     let board = g.B.Ports.ports c.args.board.now in
     let old = g.K.Sink.written c.args.sink.now in
@@ -24,8 +21,8 @@ returns-in_err-write_transmission-clause-breaks g c =
     let sent = sending_of c.args.sending.now in
     let name = c.name-name.result.now in
     let named : name ≡ (clnp_systems.configuration_of live.system).name = c.name-name.ensures ∙ ap (λ (s : SystemConfiguration). s.name) c.config.ensures in
-    transmits_cut live board board node h sent name name c.saturating_add-self.result named named c.saturating_add-self.ensures old old new
-    c.in_err-write_transmission.ensures.front)
+    transmits_cut live board board node h sent name name c.saturating_add-self.result named named c.saturating_add-self.ensures old old new _
+    c.in_err-write_transmission.ensures.front c.in_err-write_transmission.ensures.unwritten)
 
 pub returns-then-port-count-clause-plays : goal.returns-then-port-count-clause-plays
 returns-then-port-count-clause-plays g c = λ node h.
@@ -86,7 +83,7 @@ returns-in-Detached-clause-plays g c =
 
 pub returns-in-Detached-clause-breaks : goal.returns-in-Detached-clause-breaks
 returns-in-Detached-clause-breaks g c =
-    on_err_weaker c.write_loss.result (λ lost node h.
+    if_err_with c.write_loss.result (λ stop lost left node h.
     let live = c.args.self.now in
     let board = g.B.Ports.ports c.args.board.now in
     let after = g.B.Ports.ports c.put.new.self in
@@ -99,7 +96,7 @@ returns-in-Detached-clause-breaks g c =
     let on : is_attached_at c.args.sending.now.port board ≡ true =
     subst (λ (p : ℕ). is_attached_at p board ≡ true) c.from-port.ensures (sym c.is_attached.ensures ∙ c.if-not-is_attached.false) in
     transmits_lost live board after node h sent name c.name.result.now c.saturating_add-self.result named owned c.saturating_add-self.ensures
-    old mid (g.K.Sink.written c.write_loss.new.sink) on
+    old mid (g.K.Sink.written c.write_loss.new.sink) (stop ≡ stops.WriteFault) on
     (subst (λ (p : ℕ). ChangesPort p board after Detaches) c.from-port.ensures c.in-Detached.ensures)
-    c.in_ok-write_transmission.ensures.written lost)
-    c.write_loss.ensures.front
+    c.in_ok-write_transmission.ensures.written lost left)
+    c.write_loss.ensures.front c.write_loss.ensures.unwritten
