@@ -30,7 +30,7 @@ use Rattle.clnp_plan.specs.declared.config.Role.{Role}
 use Rattle.clnp_plan.specs.declared.ask.Ask.{Ask}
 use Rattle.clnp_plan.specs.declared.config.PortConfig.{PortConfig}
 use Rattle.clnp_machine.specs.Attachment.{Attachment}
-use Rattle.clnp_machine.specs.Unit.{DataUnit, Packet, IsCarriable, cut, more_follows, segmentation_of, value_of, value_with, whole_packet, wire}
+use Rattle.clnp_machine.specs.Unit.{DataUnit, Packet, IsCarriable, cut, more_follows, value_of, value_with, whole_packet, wire}
 use Rattle.clnp_machine.specs.Content.{Content, Esis, IsCarried, Labelled, Unlabelled}
 use Rattle.clnp_machine.specs.System.{SystemState, Input, AsksToSend, AsksForEcho, FrameComes, MomentComes, IsRestarted, IsCongested, IsChanged, Output, Transmits, SendsEsis, Notes, Effect, then_does}
 use Rattle.clnp_machine.specs.Esis.{esis_comes, forgets, says_hello, title_of}

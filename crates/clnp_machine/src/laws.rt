@@ -42,7 +42,7 @@ ghost use Rattle.clnp_machine.specs.Unit.{DataUnit, Packet, IsCarriable, cut, va
 ghost use Rattle.clnp_machine.specs.Content.{Content, Esis, IsCarried, Labelled, Unlabelled, content_of, frame_of};
 ghost use Rattle.clnp_machine.specs.Esis.{esis_comes, forgets, gone_note, hello_everywhere, own_hello, redirect, says_hello, tells_new, tells_of_itself, title_of};
 ghost use Rattle.clnp_machine.specs.Local.{Action, Tells, and_then, at_moment, discard, discard_first, echo_ask, gives_up, header_size, is_all, is_replied, made_in, make, makes, receive, refusal, report_unit, takes_in, tells, tick, unit_of};
-ghost use Rattle.clnp_machine.specs.System.{SystemState, Input, AsksForEcho, AsksToSend, FrameComes, IsChanged, IsRestarted, MomentComes, Notes, SendsEsis};
+ghost use Rattle.clnp_machine.specs.System.{SystemState, Input, AsksForEcho, AsksToSend, FrameComes, IsChanged, IsRestarted, MomentComes, Notes, SendsEsis, Effect};
 ghost use Rattle.clnp_plan.specs.PduHeader.Headers.{with_lifetime, with_options};
 ghost use Rattle.clnp_machine.specs.EditLaws.{EditLaws};
 ghost use Rattle.clnp_machine.specs.Edited.{AreEdited, Edit, with_edits};
@@ -51,6 +51,7 @@ ghost use Rattle.clnp_machine.specs.Due.{FollowsTimer, IsAskedByGroup, IsHelloDu
 ghost use Rattle.clnp_machine.specs.Ports.{ComesByPort, GoesByPort};
 ghost use Rattle.clnp_machine.specs.Requests.{AnswersNone, AnswersNothing, AnswersOldest, StayUnlessAnswered, newest};
 ghost use Rattle.clnp_machine.specs.Ways.{BeginsWithDiscard, CallsForRedirect, IsAllOfItsUnit, IsAllowedWay, IsDiscardedFor, IsFirstOrGoesOn, IsOnRoute, IsOwnWhereFirst, SendsItsWay, aim_of};
+ghost use Rattle.clnp_machine.specs.Whereabouts.{HasOneFate, HasOneFateInFrame, TellsOfOctets};
 ghost use Rattle.clnp_machine.specs.EveryStep.{AreCarriable, AreNumbered, IsAtMostReportOf, IsFairChange, IsMadeFor, IsNoChange, IsNoRestart, IsRedirectFor, KeepsAsOffered, KeepsNextHops, KnowsAddresses, ReportsOn, RestartsNothing, WasPendingOrMade, BreaksNoEsisRule, BreaksNoRule, CarriesOneEsisValue, CarriesOnePacket, IsAtMostItsHello, IsAtMostOneTo, IsDeed, IsEffect, IsFair, IsForOwn, GoesOnOrIsReported, IsFresh, IsRangeOf, IsWithinBudget, NotesOnly, OnlyHellos, SendsCarriable, SendsEsisPdus, SendsItsOwn, SendsRangesOrGoesOn, StaysItself, WasKeptOrComes, attached_after, moment_after, segments_in, sends_esis, sends_frame};
 ghost use Rattle.clnp_machine.specs.Told.{IsAllowed, IsRefusal, IsToldBy, LeavesRefused, MayBeDrawn, NoteIsQuiet, NotesNoRule, SpellsPdus, TellsNoInterference, TellsOnly, WasThereOrTakes};
 
@@ -221,6 +222,24 @@ pub fn packets_go_their_way()
         → let outputs = (passes_by Router s came p following).outputs in
         AllByRecursion (SendsItsWay s p) outputs ⊎ BeginsWithDiscard outputs }
 {}
+
+/// A packet that comes has exactly one fate, whatever the state: it goes on, all of it; it is discarded with a note of the
+/// reason; it is handed up with the data that it makes whole; it is kept; it was kept before; or it is left by a host that doesn't
+/// have its destination. So it is of one that comes in a frame. Octets that spell no PDU are told of.
+pub fn each_packet_has_one_fate()
+    ensures packet { (s : SystemState) (came : Neighbour) (p : Packet) (following : List ℕ)
+        → AllByRecursion IsPort s.attached.ports → IsCarriable p
+        → HasOneFate s p following (packet_comes s came p following) }
+    ensures frame { (s : SystemState) (port : ℕ) (sender : List ℕ) (to_group : Bool) (p : Packet) (following : List ℕ)
+        → AllByRecursion IsPort s.attached.ports → IsCarriable p
+        → HasOneFateInFrame s p following (step s (FrameComes port sender to_group (Labelled p following))) }
+    ensures octets { (s : SystemState) (port : ℕ) (sender : List ℕ) (to_group : Bool) (octets : List ℕ)
+        → TellsOfOctets (step s (FrameComes port sender to_group (Unlabelled octets))).outputs }
+    ensures told { (s : SystemState) (p : Packet) (following : List ℕ) (effect : Effect)
+        → HasOneFate s p following effect → effect.outputs ≢ [] }
+{
+    laws_of_edits();
+}
 
 /// Why a packet that comes is discarded, where it is for another address: its lifetime is over, before it came (`over`) or on
 /// the way (`transit`); its complete source route doesn't lead here (`off_route`), or another system stands before the next one
