@@ -4,7 +4,7 @@ ghost use Rattle.std.specs.Prelude.{All, Bool, false, true, ◌≡◌, ◌≢◌
 ghost use Rattle.std.specs.List.{AllByRecursion, Contains, filter, flat_map, list_any};
 ghost use Rattle.hex.specs.Hex.{IsBytes};
 ghost use Rattle.clnp_plan.specs.Pdus.declared.pdu_header.kind.Kind.{Kind};
-ghost use Rattle.clnp_plan.specs.Pdus.declared.pdu_header.kind.Kind.TheVariants.{Er, Erp};
+ghost use Rattle.clnp_plan.specs.Pdus.declared.pdu_header.kind.Kind.TheVariants.{Dt, Er, Erp, Erq};
 ghost use Rattle.clnp_plan.specs.PduHeader.Spelling.{header_length, type_code};
 ghost use Rattle.clnp_plan.specs.PduHeader.Value.{PduValue};
 ghost use Rattle.pdus.specs.MadePdus.Report.{report_of};
@@ -51,7 +51,7 @@ ghost use Rattle.clnp_machine.specs.Due.{FollowsTimer, IsAskedByGroup, IsHelloDu
 ghost use Rattle.clnp_machine.specs.Ports.{ComesByPort, GoesByPort};
 ghost use Rattle.clnp_machine.specs.Requests.{AnswersNone, AnswersNothing, AnswersOldest, StayUnlessAnswered, newest};
 ghost use Rattle.clnp_machine.specs.Ways.{BeginsWithDiscard, CallsForRedirect, IsAllOfItsUnit, IsAllowedWay, IsDiscardedFor, IsFirstOrGoesOn, IsOnRoute, IsOwnWhereFirst, SendsItsWay, aim_of};
-ghost use Rattle.clnp_machine.specs.Whereabouts.{HasOneFate, HasOneFateInFrame, TellsOfOctets};
+ghost use Rattle.clnp_machine.specs.Whereabouts.{GivesOutFor, HasOneFate, HasOneFateInFrame, MakesOrRefuses, TellsOfOctets};
 ghost use Rattle.clnp_machine.specs.EveryStep.{AreCarriable, AreNumbered, IsAtMostReportOf, IsFairChange, IsMadeFor, IsNoChange, IsNoRestart, IsRedirectFor, KeepsAsOffered, KeepsNextHops, KnowsAddresses, ReportsOn, RestartsNothing, WasPendingOrMade, BreaksNoEsisRule, BreaksNoRule, CarriesOneEsisValue, CarriesOnePacket, IsAtMostItsHello, IsAtMostOneTo, IsDeed, IsEffect, IsFair, IsForOwn, GoesOnOrIsReported, IsFresh, IsRangeOf, IsWithinBudget, NotesOnly, OnlyHellos, SendsCarriable, SendsEsisPdus, SendsItsOwn, SendsRangesOrGoesOn, StaysItself, WasKeptOrComes, attached_after, moment_after, segments_in, sends_esis, sends_frame};
 ghost use Rattle.clnp_machine.specs.Told.{IsAllowed, IsRefusal, IsToldBy, LeavesRefused, MayBeDrawn, NoteIsQuiet, NotesNoRule, SpellsPdus, TellsNoInterference, TellsOnly, WasThereOrTakes};
 
@@ -461,6 +461,18 @@ pub fn what_is_noted_was_told()
     ensures told { (s : SystemState) (actions : List Action)
         → AllByRecursion (NotesOnly (IsToldBy actions)) (flat_map (outputs_of s) actions) }
     ensures tick { (s : SystemState) (now : ℕ) → AllByRecursion (TellsOnly NoteIsQuiet) (tick s now).actions }
+{}
+
+/// A unit that is asked for is made, noted, and sent whole to its next hop, or its discard is noted with the reason; or it is
+/// refused with a note. So is each unit that a step makes: it is sent whole, or its discard is noted.
+pub fn each_unit_is_sent_or_dropped()
+    ensures asked { (s : SystemState) (from to octets : List ℕ) (ask : Ask) → AllByRecursion IsPort s.attached.ports
+        → MakesOrRefuses s Dt from to octets (step s (AsksToSend from to octets ask)) }
+    ensures echo { (s : SystemState) (from to octets : List ℕ) → AllByRecursion IsPort s.attached.ports
+        → MakesOrRefuses s Erq from to octets (step s (AsksForEcho from to octets)) }
+    ensures each { (s : SystemState) (input : Input) → IsSystem s.configuration → AllByRecursion IsPort s.attached.ports
+        → IsFair input → All IsAddress s.configuration.addresses → KeepsAsOffered s
+        → AllByRecursion (GivesOutFor (at_moment (moment_after s input) s) (step s input).outputs) (step s input).units }
 {}
 
 /// A discard for a rule of PDUs is noted only where octets come that spell no PDU.
