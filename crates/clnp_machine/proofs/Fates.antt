@@ -36,7 +36,7 @@ use Rattle.clnp_machine.specs.Local.{Deed, and_then, data_in, discard, echo_ask,
 use Rattle.clnp_machine.specs.Step.{Hop, Way, discard_refused, discards, effect_of, forwarded, hop_by, loss_at, octets_come, options_behind, outputs_of, packet_comes, passes_by, redirects, responds, step, transmissions, unheard_note}
 use Rattle.clnp_machine.specs.EditLaws.{EditLaws}
 use Rattle.clnp_machine.specs.EveryStep.{GoesOnFrom, segments_in, sends_esis}
-use Rattle.clnp_machine.specs.Whereabouts.{DropsPacket, Fate, GoesOn, HasOneFate, HasOneFateInFrame, IsDropped, IsHandedUp, IsKept, IsLeft, MakesWhole, Meets, SendsAllOn, TellsCause, TellsOfDiscard, TellsOfOctets, TellsOfRoom, TellsOfUnit, WasKept, together}
+use Rattle.clnp_machine.specs.Whereabouts.{DropsPacket, EndsWithHellos, Fate, GoesOn, HasOneFate, HasOneFateInFrame, IsDropped, IsHandedUp, IsKept, IsLeft, MakesWhole, Meets, SendsAllOn, TellsCause, TellsOfDiscard, TellsOfOctets, TellsOfRoom, TellsOfUnit, WasKept, together}
 use Rattle.clnp_machine.proofs.AllOf.{onward_is_all}
 use Rattle.clnp_machine.proofs.Asked.{discard_makes}
 use Rattle.clnp_machine.proofs.GoingOn.{its_way}
@@ -116,7 +116,7 @@ module _ (s : SystemState) (p : Packet) (following : List ℕ) where
 
 -- Discards.
 
-reports_keep : (s : SystemState) (frame : List ℕ) (reason place : ℕ) (found : Option (List ℕ)) → (reports_from found s frame reason place).after.buffers ≡ s.buffers
+pub reports_keep : (s : SystemState) (frame : List ℕ) (reason place : ℕ) (found : Option (List ℕ)) → (reports_from found s frame reason place).after.buffers ≡ s.buffers
 reports_keep s frame reason place None = refl
 reports_keep s frame reason place (Some own) = go (is_reportable frame)
   where
@@ -159,7 +159,7 @@ module _ (laws : EditLaws) (s : SystemState) (p : Packet) (following : List ℕ)
 
 -- What is told of a whole unit.
 
-tells_of : (s : SystemState) → AllByRecursion IsPort s.attached.ports → (buffers : List (Buffer Packet)) (kind : Kind) (from to octets : List ℕ)
+pub tells_of : (s : SystemState) → AllByRecursion IsPort s.attached.ports → (buffers : List (Buffer Packet)) (kind : Kind) (from to octets : List ℕ)
     (options : List Parameter)
     → TellsOfUnit s kind from to octets (effect_of (hand_up (record s { buffers = buffers }) kind from to octets options))
 tells_of s each buffers Dt from to octets options = refl
@@ -175,7 +175,7 @@ tells_of s each buffers Erp from to octets options = go (find (is_answer from to
 -- Segments that are kept.
 
 -- why a segment may be refused
-abbrev MayRefuse : (covered : Bool) → Option Answer → Type 0
+abbrev pub MayRefuse : (covered : Bool) → Option Answer → Type 0
 MayRefuse covered None = Unit {0}
 MayRefuse covered (Some buffer.Held) = ⊥
 MayRefuse covered (Some buffer.Whole) = ⊥
@@ -186,7 +186,7 @@ MayRefuse covered (Some (buffer.Crowded held size)) = Unit {0}
 MayRefuse covered (Some (buffer.Many segments)) = Unit {0}
 
 module _ (limits : TableLimits) (moment : ℕ) (arrival : Arrival Packet) where
-  refusal_may : (buffers : List (Buffer Packet))
+  pub refusal_may : (buffers : List (Buffer Packet))
       → MayRefuse (are_covered (kept_in (buffer_of arrival.key buffers)) arrival.offset arrival.len) (refusal limits arrival buffers)
   refusal_may buffers =
       let found = buffer_of arrival.key buffers in
@@ -233,7 +233,7 @@ module _ (limits : TableLimits) (moment : ℕ) (arrival : Arrival Packet) where
   shape_with (Some before) fits = same_shape_is before.shape arrival.shape (not-false (same_shape before.shape arrival.shape) fits)
 
   -- where that is whole, the segment makes its unit whole
-  whole_with : (buffers : List (Buffer Packet)) → refusal limits arrival buffers ≡ None
+  pub whole_with : (buffers : List (Buffer Packet)) → refusal limits arrival buffers ≡ None
       → is_whole_in (buffer_of arrival.key (with_kept limits moment arrival buffers)) ≡ true
       → MakesWhole buffers arrival (data_in (buffer_of arrival.key (with_kept limits moment arrival buffers)))
   whole_with buffers e whole =
@@ -266,6 +266,19 @@ module _ (limits : TableLimits) (moment : ℕ) (arrival : Arrival Packet) where
       ]
 
 -- Packets.
+
+pub ends_with_hellos : (s : SystemState) (p : Packet) (following : List ℕ) (came : Neighbour) (to_group : Bool)
+    → EndsWithHellos (packet_comes s came p following) (step s (FrameComes came.port came.snpa to_group (Labelled p following)))
+ends_with_hellos s p following came to_group =
+    let come = packet_comes s came p following in
+    let only = only_responds come.after came to_group p in
+    record {
+      hellos = responds come.after came to_group p;
+      only = only;
+      after = refl;
+      outputs = refl;
+      units = ap (λ (more : List DataUnit). come.units ++ more) only.units ∙ append-nil come.units;
+    }
 
 module _ (laws : EditLaws) (s : SystemState) (each : AllByRecursion IsPort s.attached.ports) (p : Packet) (following : List ℕ) where
   abbrev Fated : Deed → Type 0
@@ -368,19 +381,7 @@ module _ (laws : EditLaws) (s : SystemState) (each : AllByRecursion IsPort s.att
 
     pub frame_fate : (to_group : Bool) → HasOneFateInFrame s p following (step s (FrameComes came.port came.snpa to_group (Labelled p following)))
     frame_fate to_group =
-        let come = packet_comes s came p following in
-        let only = only_responds come.after came to_group p in
-        record {
-          first = come;
-          fate = packet_fate;
-          hellos = record {
-            hellos = responds come.after came to_group p;
-            only = only;
-            after = refl;
-            outputs = refl;
-            units = ap (λ (more : List DataUnit). come.units ++ more) only.units ∙ append-nil come.units;
-          };
-        }
+        record { first = packet_comes s came p following; fate = packet_fate; hellos = ends_with_hellos s p following came to_group }
 
 -- Octets that spell no PDU.
 

@@ -1,21 +1,22 @@
--- What becomes of a packet that comes and of a unit that is made: neither vanishes without a note.
+-- What becomes of a packet that comes, of a unit that is made and of a segment that is kept: none vanishes without a note.
 use Rattle.std.specs.Prelude.{◌≡◌, ◌≢◌, ◌⊎◌, ℕ, ◌+◌, true, false, List, [], ◌∷◌, ◌++◌, map, slice_get, None, Some}
 use Rattle.std.specs.List.{AllByRecursion, Contains, range_with_len}
 use Rattle.pdus.specs.MadePdus.Range.{Partition, Range, Tiles}
 use Rattle.clnp_plan.specs.Pdus.declared.pdu_header.kind.Kind.{Kind}
 use Rattle.clnp_plan.specs.Pdus.declared.pdu_header.kind.Kind.TheVariants.{Dt, Er, Erq, Erp}
-use Rattle.system_tables.specs.Reassembly.Arrival.{Arrival, are_covered, data_len, earliest}
+use Rattle.system_tables.specs.Reassembly.Arrival.{Arrival, are_covered, data_len, earliest, same_key}
 use Rattle.system_tables.specs.Reassembly.Buffer.{Buffer, buffer_of, held, kept_in, octet_by}
 use Rattle.clnp_plan.specs.declared.config.PortConfig.{PortConfig}
 use Rattle.clnp_plan.specs.declared.config.Role.TheVariants.{Host, Router}
 use Rattle.clnp_plan.specs.declared.note.Note.{Note}
-use Rattle.clnp_plan.specs.declared.note.Note.TheVariants.{Alien, BadEsis, Crowded, Discard, Echoed, Got, Held, Interference, Many, NoSlot, NotMine, Refused, Repeat, Report, Stray}
+use Rattle.clnp_plan.specs.declared.note.Note.TheVariants.{Alien, BadEsis, Crowded, Discard, Echoed, Expired, Got, Held, Interference, Many, NoSlot, NotMine, Refused, Repeat, Report, Restart, Stray}
 use Rattle.clnp_plan.specs.declared.note.Why.{Why}
 use Rattle.clnp_machine.specs.Unit.{DataUnit, Packet, cut, value_of, whole_packet, wire}
-use Rattle.clnp_machine.specs.System.{SystemState, Output, Notes, Effect}
+use Rattle.clnp_machine.specs.System.{SystemState, Input, IsRestarted, MomentComes, Output, Notes, Effect}
 use Rattle.clnp_machine.specs.Local.{is_own, octet_of, offered, sent_note}
 use Rattle.clnp_machine.specs.Step.{Hop, transmissions, unit_hop}
-use Rattle.clnp_machine.specs.EveryStep.{GoesOnFrom, IsAtMostReportOf, OnlyHellos, SendsRangesOf, segments_in, sends_esis}
+use Rattle.clnp_machine.specs.EveryStep.{ComesWith, GoesOnFrom, IsAtMostReportOf, OnlyHellos, SendsRangesOf, segments_in, sends_esis}
+use Rattle.clnp_machine.specs.Due.{HasEnded}
 use Rattle.clnp_machine.specs.Ways.{GoesItsWay, IsAllOfItsUnit}
 
 -- Packets that are all of one.
@@ -240,3 +241,54 @@ TellsOfOctets (Notes (Discard reason place) ∷ report) = Unit {0}
 TellsOfOctets (Notes Alien ∷ []) = Unit {0}
 TellsOfOctets (Notes (BadEsis rule place) ∷ []) = Unit {0}
 TellsOfOctets _ = ⊥
+
+-- Segments that are kept.
+
+-- the segment that comes is kept in a buffer, behind those that are there
+pub record GainsSegment (input : Input) (after : List (Buffer Packet)) (buffer : Buffer Packet) : Type 0 where
+  pub arrival : Arrival Packet
+  pub comes : ComesWith input arrival
+  pub same : same_key buffer.key arrival.key ≡ true
+  pub there : Contains after (record buffer { kept = buffer.kept ++ arrival ∷ [] })
+
+-- the segment that comes makes the unit of a buffer's key whole, and that is told with the unit's data
+pub record IsCompleted (s : SystemState) (input : Input) (effect : Effect) (buffer : Buffer Packet) : Type 0 where
+  pub p : Packet
+  pub following : List ℕ
+  pub comes : ComesWith input (offered p following)
+  pub same : same_key buffer.key (offered p following).key ≡ true
+  pub octets : List ℕ
+  pub whole : MakesWhole s.buffers (offered p following) octets
+  pub first : Effect
+  pub told : TellsOfUnit s p.unit.kind p.unit.source p.unit.destination octets first
+  pub hellos : EndsWithHellos first effect
+
+-- a moment comes at which the time of a buffer of the key has ended, which is noted (ISO 8473, section 6.8)
+pub record IsExpired (s : SystemState) (input : Input) (effect : Effect) (buffer : Buffer Packet) : Type 0 where
+  pub now : ℕ
+  pub is : input ≡ MomentComes now
+  pub ended : HasEnded now s.buffers buffer
+  pub left : ℕ
+  pub told : Contains effect.outputs (Notes (Expired buffer.key.id left))
+
+-- the system is restarted, which is noted
+pub record IsForgotten (input : Input) (effect : Effect) : Type 0 where
+  pub is : input ≡ IsRestarted
+  pub told : effect.outputs ≡ Notes Restart ∷ []
+
+-- why the segments of a buffer are no longer kept
+abbrev pub IsToldOf : SystemState → Input → Effect → Buffer Packet → Type 0
+IsToldOf s input effect buffer =
+    IsCompleted s input effect buffer ⊎ IsExpired s input effect buffer ⊎ IsForgotten input effect
+
+-- a buffer stays as it is, or with the segment that comes; or it is told of
+abbrev pub StaysOrIsTold : SystemState → Input → Effect → Buffer Packet → Type 0
+StaysOrIsTold s input effect buffer =
+    Contains effect.after.buffers buffer
+    ⊎ GainsSegment input effect.after.buffers buffer
+    ⊎ IsToldOf s input effect buffer
+
+-- so each of its segments is still kept, or is told of
+abbrev pub SegmentsStayOrAreTold : SystemState → Input → Effect → Buffer Packet → Type 0
+SegmentsStayOrAreTold s input effect buffer =
+    AllByRecursion (Contains (segments_in effect.after.buffers)) buffer.kept ⊎ IsToldOf s input effect buffer

@@ -51,7 +51,7 @@ ghost use Rattle.clnp_machine.specs.Due.{FollowsTimer, IsAskedByGroup, IsHelloDu
 ghost use Rattle.clnp_machine.specs.Ports.{ComesByPort, GoesByPort};
 ghost use Rattle.clnp_machine.specs.Requests.{AnswersNone, AnswersNothing, AnswersOldest, StayUnlessAnswered, newest};
 ghost use Rattle.clnp_machine.specs.Ways.{BeginsWithDiscard, CallsForRedirect, IsAllOfItsUnit, IsAllowedWay, IsDiscardedFor, IsFirstOrGoesOn, IsOnRoute, IsOwnWhereFirst, SendsItsWay, aim_of};
-ghost use Rattle.clnp_machine.specs.Whereabouts.{GivesOutFor, HasOneFate, HasOneFateInFrame, MakesOrRefuses, TellsOfOctets};
+ghost use Rattle.clnp_machine.specs.Whereabouts.{GivesOutFor, HasOneFate, HasOneFateInFrame, MakesOrRefuses, SegmentsStayOrAreTold, StaysOrIsTold, TellsOfOctets};
 ghost use Rattle.clnp_machine.specs.EveryStep.{AreCarriable, AreNumbered, IsAtMostReportOf, IsFairChange, IsMadeFor, IsNoChange, IsNoRestart, IsRedirectFor, KeepsAsOffered, KeepsNextHops, KnowsAddresses, ReportsOn, RestartsNothing, WasPendingOrMade, BreaksNoEsisRule, BreaksNoRule, CarriesOneEsisValue, CarriesOnePacket, IsAtMostItsHello, IsAtMostOneTo, IsDeed, IsEffect, IsFair, IsForOwn, GoesOnOrIsReported, IsFresh, IsRangeOf, IsWithinBudget, NotesOnly, OnlyHellos, SendsCarriable, SendsEsisPdus, SendsItsOwn, SendsRangesOrGoesOn, StaysItself, WasKeptOrComes, attached_after, moment_after, segments_in, sends_esis, sends_frame};
 ghost use Rattle.clnp_machine.specs.Told.{IsAllowed, IsRefusal, IsToldBy, LeavesRefused, MayBeDrawn, NoteIsQuiet, NotesNoRule, SpellsPdus, TellsNoInterference, TellsOnly, WasThereOrTakes};
 
@@ -496,6 +496,16 @@ pub fn each_ended_buffer_is_taken_out()
         → AllByRecursion (Contains s.buffers) (step s (MomentComes now)).after.buffers }
     ensures stays { (s : SystemState) (now : ℕ)
         → AllByRecursion (StaysUnlessEnded now s.buffers (step s (MomentComes now)).after.buffers) s.buffers }
+{}
+
+/// What is kept stays or is told of, whatever comes: each buffer is left as it is, or with the segment that comes, kept in it; or
+/// that segment makes its unit whole, which is told with the unit's data; or its time has ended, or the system is restarted, which
+/// is noted. So each segment is still kept, or one of these is told of its buffer.
+pub fn what_is_kept_stays_or_is_told()
+    ensures buffers { (s : SystemState) (input : Input) → AllByRecursion IsPort s.attached.ports
+        → AllByRecursion (StaysOrIsTold s input (step s input)) s.buffers }
+    ensures segments { (s : SystemState) (input : Input) → AllByRecursion IsPort s.attached.ports
+        → AllByRecursion (SegmentsStayOrAreTold s input (step s input)) s.buffers }
 {}
 
 /// A restart leaves a system as at its start, quiet for as long as an identifier rests, but for its place, its moment, the count of
