@@ -80,7 +80,7 @@ module _ (laws : EditLaws) (s : SystemState) where
       noted_pdu s.congested noted (laws.pdus.recorded passed (title_of s) (passing_pdu most_titles v is) title)
 
   -- the header is as long
-  header_behind : (p : Packet) (loss : ℕ) (options : List Parameter) → HaveOneForm options p.options
+  pub header_behind : (p : Packet) (loss : ℕ) (options : List Parameter) → HaveOneForm options p.options
       → header_length (value_with (forwarded p loss options) false) ≡ header_length (value_with p false)
   header_behind p loss options form =
       let octets : ℕ → ℕ = λ n. 11 + length p.unit.destination + length p.unit.source + length (segmentation_octets (segmentation_of p)) + n in

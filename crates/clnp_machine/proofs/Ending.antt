@@ -1,5 +1,5 @@
 -- When a moment comes, each buffer whose time has ended is taken out, and no other; and a restart leaves a system as at its start.
-use Rattle.std.proofs.Common.{◌≡◌, ◌∙◌, refl, sym, ap, subst, ℕ, zero, suc, ◌<◌, ◌≤◌, inl, inr, Bool, true, false, not, List, [], ◌∷◌, ◌++◌, length, Option, None, Some, Contains, arith}
+use Rattle.std.proofs.Common.{◌≡◌, ◌∙◌, refl, sym, ap, subst, ℕ, zero, suc, ◌<◌, ◌≤◌, ◌⊎◌, inl, inr, Bool, true, false, not, List, [], ◌∷◌, ◌++◌, length, Option, None, Some, Contains, arith}
 use Rattle.std.specs.List.{AllByRecursion, filter}
 use Rattle.std.proofs.lemmas.Bool.{cases_Bool, not-false}
 use Rattle.std.proofs.lemmas.List.Elements.{Contains-append_right}
@@ -7,13 +7,14 @@ use Rattle.clnp_plan.proofs.ClnpBase.Filters.{AllByRecursion-filter, filter-fewe
 use Rattle.clnp_plan.proofs.ClnpBase.Lists.{AllByRecursion-contains, AllByRecursion-implies}
 use Rattle.system_tables.specs.declared.reassembly.segment.Key.{Key}
 use Rattle.system_tables.specs.Reassembly.Arrival.{same_key}
-use Rattle.system_tables.specs.Reassembly.Buffer.{Buffer, due, without}
-use Rattle.system_tables.proofs.ReassemblyFacts.Shared.{due_is, same_key-refl}
+use Rattle.system_tables.specs.Reassembly.Buffer.{Buffer, due, held, without}
+use Rattle.system_tables.proofs.ReassemblyFacts.Shared.{due_is, same_key-refl, same_key-true}
 use Rattle.clnp_plan.specs.declared.config.Limits.{Limits}
+use Rattle.clnp_plan.specs.declared.note.Note.TheVariants.{Expired}
 use Rattle.clnp_machine.specs.Unit.{Packet}
 use Rattle.clnp_machine.specs.System.{SystemState, IsRestarted, MomentComes}
 use Rattle.clnp_machine.specs.Esis.{forgets, says_hello}
-use Rattle.clnp_machine.specs.Local.{at_moment, expire, give_up_due, gives_up, tick}
+use Rattle.clnp_machine.specs.Local.{Deed, Tells, at_moment, expire, give_up_due, gives_up, rests, tick}
 use Rattle.clnp_machine.specs.Step.{step}
 use Rattle.clnp_machine.specs.Due.{HasEnded, StaysUnlessEnded, begun_anew}
 use Rattle.clnp_machine.proofs.Deeds.{given_up_after}
@@ -32,7 +33,7 @@ no_buffer now [] few = refl
 no_buffer now (b ∷ buffers) few = absurd (omega arith)
 
 -- what holds of each element that passes, and of each that doesn't
-each_passes_or_not : {X : Type 0} (p : X → Bool) (P Q : X → Type 0) → ((x : X) → p x ≡ true → Q x → P x) → ((x : X) → p x ≡ false → P x) → (xs : List X)
+pub each_passes_or_not : {X : Type 0} (p : X → Bool) (P Q : X → Type 0) → ((x : X) → p x ≡ true → Q x → P x) → ((x : X) → p x ≡ false → P x) → (xs : List X)
     → AllByRecursion Q (filter p xs) → AllByRecursion P xs
 each_passes_or_not p P Q passes fails [] h = tt
 each_passes_or_not p P Q passes fails (x ∷ xs) h =
@@ -87,15 +88,21 @@ module _ (now : ℕ) where
           by_left (AllByRecursion P) most t ended
           (later (left t ended) (AllByRecursion-filter (λ b. not (same_key b.key ended.key)) P P (λ b t k. k) t.buffers h))
 
-  each_stays : (most : ℕ) (t : SystemState) → t.moment ≡ now → AllByRecursion (StaysUnlessEnded now t.buffers (expire most t).after.buffers) t.buffers
-  each_stays zero t at =
-      AllByRecursion-implies (Contains t.buffers) (StaysUnlessEnded now t.buffers t.buffers) (λ b there. inl there) t.buffers (all_contained t.buffers)
-  each_stays (suc most) t at = go (each_stays most) (due t.moment t.buffers) refl
+  -- a buffer is left where the due ones are taken out, or one of its key has ended, and that is told
+  abbrev pub StaysOrEnds : SystemState → Deed → Buffer Packet → Type 0
+  StaysOrEnds t deed b =
+      Contains deed.after.buffers b ⊎ (HasEnded now t.buffers b × ((left : ℕ) × Contains deed.actions (Tells (Expired b.key.id left))))
+
+  all_stay : (t : SystemState) → AllByRecursion (StaysOrEnds t (rests t)) t.buffers
+  all_stay t = AllByRecursion-implies (Contains t.buffers) (StaysOrEnds t (rests t)) (λ b there. inl there) t.buffers (all_contained t.buffers)
+
+  pub each_stays_or_ends : (most : ℕ) (t : SystemState) → t.moment ≡ now → AllByRecursion (StaysOrEnds t (expire most t)) t.buffers
+  each_stays_or_ends zero t at = all_stay t
+  each_stays_or_ends (suc most) t at = go (each_stays_or_ends most) (due t.moment t.buffers) refl
     where
-      go : ((v : SystemState) → v.moment ≡ now → AllByRecursion (StaysUnlessEnded now v.buffers (expire most v).after.buffers) v.buffers) → (found : Option (Buffer Packet)) → due t.moment t.buffers ≡ found
-          → AllByRecursion (StaysUnlessEnded now t.buffers (give_up_due found t (expire most)).after.buffers) t.buffers
-      go behind None e =
-          AllByRecursion-implies (Contains t.buffers) (StaysUnlessEnded now t.buffers t.buffers) (λ b there. inl there) t.buffers (all_contained t.buffers)
+      go : ((v : SystemState) → v.moment ≡ now → AllByRecursion (StaysOrEnds v (expire most v)) v.buffers) → (found : Option (Buffer Packet))
+          → due t.moment t.buffers ≡ found → AllByRecursion (StaysOrEnds t (give_up_due found t (expire most))) t.buffers
+      go behind None e = all_stay t
       go behind (Some ended) e =
           let there = due_is t.moment t.buffers ended e in
           let has_ended : ended.deadline ≤ now = subst (λ (n : ℕ). ended.deadline ≤ n) at there.has_ended in
@@ -104,19 +111,32 @@ module _ (now : ℕ) where
           (Contains-append_right there.before (ended ∷ there.behind) ended (0, omega arith, refl)) in
           let passes : Buffer Packet → Bool = λ b. not (same_key b.key ended.key) in
           let rest : List (Buffer Packet) = without ended.key t.buffers in
-          let later : List (Buffer Packet) = (expire most (left t ended)).after.buffers in
+          let first : Deed = gives_up t ended in
+          let whole : SystemState → Deed = λ v. record { after = (expire most v).after; actions = first.actions ++ (expire most v).actions } in
           let were : AllByRecursion (Contains t.buffers) rest =
           AllByRecursion-filter passes (Contains t.buffers) (Contains t.buffers) (λ b p k. k) t.buffers (all_contained t.buffers) in
-          by_left (λ (buffers : List (Buffer Packet)). AllByRecursion (StaysUnlessEnded now t.buffers buffers) t.buffers) most t ended
-          (each_passes_or_not passes (StaysUnlessEnded now t.buffers later) (StaysUnlessEnded now rest later)
-          (λ b p h. elim h [ inl stays ↦ inl stays | inr is ↦ inr (ended_before now t.buffers rest b were is) ])
-          (λ b f. inr (record { ended = ended; there = contains; due = has_ended; same = not-false (same_key b.key ended.key) f })) t.buffers
-          (behind (left t ended) at))
+          subst (λ (v : SystemState). AllByRecursion (StaysOrEnds t (whole v)) t.buffers) (sym (given_up_after t ended))
+          (each_passes_or_not passes (StaysOrEnds t (whole (left t ended))) (StaysOrEnds (left t ended) (expire most (left t ended)))
+          (λ b p h. elim h [
+            | inl stays ↦ inl stays
+            | inr is ↦ inr (
+              ended_before now t.buffers rest b were is.0,
+              (is.1.0, Contains-append_right first.actions (expire most (left t ended)).actions (Tells (Expired b.key.id is.1.0)) is.1.1),
+            )
+          ])
+          (λ b f.
+          let same : same_key b.key ended.key ≡ true = not-false (same_key b.key ended.key) f in
+          let id : ended.key.id ≡ b.key.id = ap (λ (k : Key). k.id) (sym (same_key-true b.key ended.key same)) in
+          let told : Contains (first.actions ++ (expire most (left t ended)).actions) (Tells (Expired ended.key.id (held rest))) = (0, omega arith, refl) in
+          inr (
+            record { ended = ended; there = contains; due = has_ended; same = same },
+            (held rest, subst (λ (n : ℕ). Contains (first.actions ++ (expire most (left t ended)).actions) (Tells (Expired n (held rest)))) id told),
+          )) t.buffers (behind (left t ended) at))
 
 -- What is said and heard afterwards leaves the buffers.
 
 module _ (s : SystemState) (now : ℕ) where
-  buffers_kept : (step s (MomentComes now)).after.buffers ≡ (tick s now).after.buffers
+  pub buffers_kept : (step s (MomentComes now)).after.buffers ≡ (tick s now).after.buffers
   buffers_kept =
       let ticked = (tick s now).after in
       (only_then ticked (forgets s.moment ticked) says_hello (only_forgets s.moment ticked) (only_says_hello ticked)).rest.buffers
@@ -132,7 +152,9 @@ module _ (s : SystemState) (now : ℕ) where
   pub stay_unless_ended : AllByRecursion (StaysUnlessEnded now s.buffers (step s (MomentComes now)).after.buffers) s.buffers
   stay_unless_ended =
       subst (λ (buffers : List (Buffer Packet)). AllByRecursion (StaysUnlessEnded now s.buffers buffers) s.buffers) (sym buffers_kept)
-      (each_stays now (length s.buffers) (at_moment now s) refl)
+      (AllByRecursion-implies (StaysOrEnds now (at_moment now s) (tick s now)) (StaysUnlessEnded now s.buffers (tick s now).after.buffers)
+      (λ b h. elim h [ inl stays ↦ inl stays | inr is ↦ inr is.0 ]) s.buffers
+      (each_stays_or_ends now (length s.buffers) (at_moment now s) refl))
 
 -- A restart.
 

@@ -116,7 +116,7 @@ module _ (laws : RouteLaws) (s : SystemState) where
 -- The way.
 
 module _ (s : SystemState) (came : Neighbour) (p : Packet) (following : List ℕ) where
-  its_way : (way : Way) → IsItsWay s p way → GoesItsWay s p way.neighbour.port (System way.neighbour.snpa)
+  pub its_way : (way : Way) → IsItsWay s p way → GoesItsWay s p way.neighbour.port (System way.neighbour.snpa)
   its_way way is = record {
     way = way;
     known = is.known;

@@ -21,6 +21,7 @@ use Rattle.clnp_plan.specs.declared.ask.Ask.{Ask}
 use Rattle.clnp_plan.specs.declared.config.PortConfig.{PortConfig}
 use Rattle.clnp_plan.specs.declared.note.Note.{Note}
 use Rattle.clnp_plan.specs.declared.note.Note.TheVariants.{BadEsis, Discard, Echoed, Expired, Gone, Got, Hear, Ignored, Port, Refused, Report, Restart, Route, Sent, Stray, Unroute}
+use Rattle.clnp_plan.specs.declared.note.Why.{Why}
 use Rattle.clnp_plan.specs.declared.note.Why.TheVariants as why
 use Rattle.clnp_machine.specs.Identifiers.{NotDrawn, IsQuiet, IsBusy, not_drawn}
 use Rattle.clnp_machine.specs.Unit.{DataUnit, Packet, value_of, whole_packet, cut}
@@ -39,24 +40,28 @@ use Rattle.clnp_plan.proofs.ClnpBase.Choices.{one_of}
 
 -- Why a unit isn't made.
 
-first_of_two : (refused : Note) (next : Option Note) (holds : Bool) → IsRefusal (Some refused) → IsRefusal next
-    → IsRefusal (if holds then Some refused else next)
-first_of_two refused next holds h k = one_of IsRefusal holds (Some refused) next h k
+module _ (P : Option Note → Type 0) (unrefused : P None) (refused : (why : Why) (value : ℕ) → P (Some (Refused why value))) where
+  not_drawn_such : (found : Option NotDrawn) → P (option_map not_drawn_note found)
+  not_drawn_such None = unrefused
+  not_drawn_such (Some (IsQuiet until)) = refused why.Quiet until
+  not_drawn_such (Some (IsBusy used)) = refused why.IdsBusy used
 
-not_drawn_is_refused : (why : Option NotDrawn) → IsRefusal (option_map not_drawn_note why)
-not_drawn_is_refused None = tt
-not_drawn_is_refused (Some (IsQuiet until)) = tt
-not_drawn_is_refused (Some (IsBusy used)) = tt
+  drawing_such : (s : SystemState) (identifier : Option ℕ) → P (identifier_refusal s identifier)
+  drawing_such s None = unrefused
+  drawing_such s (Some identifier) = not_drawn_such (not_drawn s.moment s.identifiers)
 
-drawing_is_refused : (s : SystemState) (identifier : Option ℕ) → IsRefusal (identifier_refusal s identifier)
-drawing_is_refused s None = tt
-drawing_is_refused s (Some identifier) = not_drawn_is_refused (not_drawn s.moment s.identifiers)
+  first_of_two : (why : Why) (value : ℕ) (next : Option Note) (holds : Bool) → P next → P (if holds then Some (Refused why value) else next)
+  first_of_two why value next holds h = one_of P holds (Some (Refused why value)) next (refused why value) h
+
+  -- what holds of no note and of each refusal holds of what is noted in place of a unit
+  pub refusal_such : (s : SystemState) (u : DataUnit) → P (refusal s u)
+  refusal_such s u =
+      first_of_two why.NotMine 0 _ (not (is_own s u.source))
+      (first_of_two why.TooLong (length u.octets) _ (nat_lt most_octets (length u.octets))
+      (first_of_two why.TooLong (header_size u) _ (nat_lt 254 (header_size u)) (drawing_such s u.identifier)))
 
 pub refusal_refuses : (s : SystemState) (u : DataUnit) → IsRefusal (refusal s u)
-refusal_refuses s u =
-    first_of_two (Refused why.NotMine 0) _ (not (is_own s u.source)) tt
-    (first_of_two (Refused why.TooLong (length u.octets)) _ (nat_lt most_octets (length u.octets)) tt
-    (first_of_two (Refused why.TooLong (header_size u)) _ (nat_lt 254 (header_size u)) tt (drawing_is_refused s u.identifier)))
+refusal_refuses s u = refusal_such IsRefusal tt (λ why value. tt) s u
 
 -- Sending tells of nothing but of units that are dropped.
 

@@ -130,7 +130,7 @@ pieces_are p identifier [] has h within = tt
 pieces_are p identifier (range ∷ others) has h within =
     (piece_is p identifier range has h within.0, pieces_are p identifier others has h within.1)
 
-length-wire : (p : Packet) → length (wire p) ≡ segment_length (value_of p)
+pub length-wire : (p : Packet) → length (wire p) ≡ segment_length (value_of p)
 length-wire p = length-append (header (value_of p)) (value_of p).body ∙ ap (λ n. n + length (value_of p).body) (length-header (value_of p))
 
 -- a packet is cut just as its PDU

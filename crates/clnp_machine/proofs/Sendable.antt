@@ -30,7 +30,7 @@ use Rattle.clnp_plan.specs.declared.config.Role.{Role}
 use Rattle.clnp_plan.specs.declared.ask.Ask.{Ask}
 use Rattle.clnp_plan.specs.declared.config.PortConfig.{PortConfig}
 use Rattle.clnp_machine.specs.Attachment.{Attachment}
-use Rattle.clnp_machine.specs.Unit.{DataUnit, Packet, IsCarriable, cut, more_follows, segmentation_of, value_of, value_with, whole_packet, wire}
+use Rattle.clnp_machine.specs.Unit.{DataUnit, Packet, IsCarriable, cut, more_follows, value_of, value_with, whole_packet, wire}
 use Rattle.clnp_machine.specs.Content.{Content, Esis, IsCarried, Labelled, Unlabelled}
 use Rattle.clnp_machine.specs.System.{SystemState, Input, AsksToSend, AsksForEcho, FrameComes, MomentComes, IsRestarted, IsCongested, IsChanged, Output, Transmits, SendsEsis, Notes, Effect, then_does}
 use Rattle.clnp_machine.specs.Esis.{esis_comes, forgets, says_hello, title_of}
@@ -55,22 +55,22 @@ each_sent hop [] k = tt
 each_sent hop (packet ∷ packets) k = (k.0, each_sent hop packets k.1)
 
 -- an identifier, where there is one, has two octets
-abbrev IsSmall : Option ℕ → Type 0
+abbrev pub IsSmall : Option ℕ → Type 0
 IsSmall None = Unit {0}
 IsSmall (Some identifier) = identifier < 2 ^ 16
 
 -- what a unit is of which one PDU can carry all
-record IsSendable (u : DataUnit) : Type 0 where
-  lifetime : u.lifetime < 256
-  destination : IsAddress u.destination
-  source : IsAddress u.source
-  identifier : IsSmall u.identifier
-  options : AreFormed u.options
-  reason : FitsKind (is_report u.kind) u.options
-  first_position : u.first_position ≡ 0
-  total : u.total ≡ header_size u + length u.octets
-  octets : length u.octets ≤ most_octets
-  header : header_size u ≤ 254
+pub record IsSendable (u : DataUnit) : Type 0 where
+  pub lifetime : u.lifetime < 256
+  pub destination : IsAddress u.destination
+  pub source : IsAddress u.source
+  pub identifier : IsSmall u.identifier
+  pub options : AreFormed u.options
+  pub reason : FitsKind (is_report u.kind) u.options
+  pub first_position : u.first_position ≡ 0
+  pub total : u.total ≡ header_size u + length u.octets
+  pub octets : length u.octets ≤ most_octets
+  pub header : header_size u ≤ 254
 
 module _ (u : DataUnit) (h : IsSendable u) where
   abbrev whole : Packet
@@ -243,7 +243,7 @@ module _ (s : SystemState) (system : IsSystem s.configuration) (each : All IsAdd
     replied = λ octets request. reply_sendable p.unit.source p.unit.destination octets h.pdu.source h.pdu.destination;
   }
 
-all_sendable : (s : SystemState) (input : Input) → IsSystem s.configuration → IsFair input → All IsAddress s.configuration.addresses → KeepsAsOffered s
+pub all_sendable : (s : SystemState) (input : Input) → IsSystem s.configuration → IsFair input → All IsAddress s.configuration.addresses → KeepsAsOffered s
     → AllSuch IsSendable s input
 all_sendable s (AsksToSend from to octets ask) system fair each keeps = asked_is_sendable s Dt from to octets ask fair.0 fair.1
 all_sendable s (AsksForEcho from to octets) system fair each keeps =

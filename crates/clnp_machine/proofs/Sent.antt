@@ -166,7 +166,7 @@ range_sooner units more p h = record {
 -- Packets that go on.
 
 module _ (laws : EditLaws) (s : SystemState) (p : Packet) where
-  part_goes_on : (number : ℕ) (port : PortConfig) → slice_get s.attached.ports number ≡ Some port → loss_at port < p.lifetime → (q : Packet)
+  pub part_goes_on : (number : ℕ) (port : PortConfig) → slice_get s.attached.ports number ≡ Some port → loss_at port < p.lifetime → (q : Packet)
       → IsPartOf (forwarded p (loss_at port) (options_behind s p.options)) q → GoesOnFrom s number p q
   part_goes_on number port there alive q h =
       let same : q.unit ≡ p.unit = h.unit in

@@ -28,6 +28,7 @@ pub mod Given
 pub mod EditLaws
 pub mod Ports
 pub mod Ways
+pub mod Whereabouts
 pub mod Due
 pub mod Requests
 pub mod Edited

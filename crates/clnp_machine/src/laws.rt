@@ -4,7 +4,7 @@ ghost use Rattle.std.specs.Prelude.{All, Bool, false, true, ◌≡◌, ◌≢◌
 ghost use Rattle.std.specs.List.{AllByRecursion, Contains, filter, flat_map, list_any};
 ghost use Rattle.hex.specs.Hex.{IsBytes};
 ghost use Rattle.clnp_plan.specs.Pdus.declared.pdu_header.kind.Kind.{Kind};
-ghost use Rattle.clnp_plan.specs.Pdus.declared.pdu_header.kind.Kind.TheVariants.{Er, Erp};
+ghost use Rattle.clnp_plan.specs.Pdus.declared.pdu_header.kind.Kind.TheVariants.{Dt, Er, Erp, Erq};
 ghost use Rattle.clnp_plan.specs.PduHeader.Spelling.{header_length, type_code};
 ghost use Rattle.clnp_plan.specs.PduHeader.Value.{PduValue};
 ghost use Rattle.pdus.specs.MadePdus.Report.{report_of};
@@ -42,7 +42,7 @@ ghost use Rattle.clnp_machine.specs.Unit.{DataUnit, Packet, IsCarriable, cut, va
 ghost use Rattle.clnp_machine.specs.Content.{Content, Esis, IsCarried, Labelled, Unlabelled, content_of, frame_of};
 ghost use Rattle.clnp_machine.specs.Esis.{esis_comes, forgets, gone_note, hello_everywhere, own_hello, redirect, says_hello, tells_new, tells_of_itself, title_of};
 ghost use Rattle.clnp_machine.specs.Local.{Action, Tells, and_then, at_moment, discard, discard_first, echo_ask, gives_up, header_size, is_all, is_replied, made_in, make, makes, receive, refusal, report_unit, takes_in, tells, tick, unit_of};
-ghost use Rattle.clnp_machine.specs.System.{SystemState, Input, AsksForEcho, AsksToSend, FrameComes, IsChanged, IsRestarted, MomentComes, Notes, SendsEsis};
+ghost use Rattle.clnp_machine.specs.System.{SystemState, Input, AsksForEcho, AsksToSend, FrameComes, IsChanged, IsRestarted, MomentComes, Notes, SendsEsis, Effect};
 ghost use Rattle.clnp_plan.specs.PduHeader.Headers.{with_lifetime, with_options};
 ghost use Rattle.clnp_machine.specs.EditLaws.{EditLaws};
 ghost use Rattle.clnp_machine.specs.Edited.{AreEdited, Edit, with_edits};
@@ -51,6 +51,7 @@ ghost use Rattle.clnp_machine.specs.Due.{FollowsTimer, IsAskedByGroup, IsHelloDu
 ghost use Rattle.clnp_machine.specs.Ports.{ComesByPort, GoesByPort};
 ghost use Rattle.clnp_machine.specs.Requests.{AnswersNone, AnswersNothing, AnswersOldest, StayUnlessAnswered, newest};
 ghost use Rattle.clnp_machine.specs.Ways.{BeginsWithDiscard, CallsForRedirect, IsAllOfItsUnit, IsAllowedWay, IsDiscardedFor, IsFirstOrGoesOn, IsOnRoute, IsOwnWhereFirst, SendsItsWay, aim_of};
+ghost use Rattle.clnp_machine.specs.Whereabouts.{GivesOutFor, HasOneFate, HasOneFateInFrame, MakesOrRefuses, SegmentsStayOrAreTold, StaysOrIsTold, TellsOfOctets};
 ghost use Rattle.clnp_machine.specs.EveryStep.{AreCarriable, AreNumbered, IsAtMostReportOf, IsFairChange, IsMadeFor, IsNoChange, IsNoRestart, IsRedirectFor, KeepsAsOffered, KeepsNextHops, KnowsAddresses, ReportsOn, RestartsNothing, WasPendingOrMade, BreaksNoEsisRule, BreaksNoRule, CarriesOneEsisValue, CarriesOnePacket, IsAtMostItsHello, IsAtMostOneTo, IsDeed, IsEffect, IsFair, IsForOwn, GoesOnOrIsReported, IsFresh, IsRangeOf, IsWithinBudget, NotesOnly, OnlyHellos, SendsCarriable, SendsEsisPdus, SendsItsOwn, SendsRangesOrGoesOn, StaysItself, WasKeptOrComes, attached_after, moment_after, segments_in, sends_esis, sends_frame};
 ghost use Rattle.clnp_machine.specs.Told.{IsAllowed, IsRefusal, IsToldBy, LeavesRefused, MayBeDrawn, NoteIsQuiet, NotesNoRule, SpellsPdus, TellsNoInterference, TellsOnly, WasThereOrTakes};
 
@@ -221,6 +222,24 @@ pub fn packets_go_their_way()
         → let outputs = (passes_by Router s came p following).outputs in
         AllByRecursion (SendsItsWay s p) outputs ⊎ BeginsWithDiscard outputs }
 {}
+
+/// A packet that comes has exactly one fate, whatever the state: it goes on, all of it; it is discarded with a note of the
+/// reason; it is handed up with the data that it makes whole; it is kept; it was kept before; or it is left by a host that doesn't
+/// have its destination. So it is of one that comes in a frame. Octets that spell no PDU are told of.
+pub fn each_packet_has_one_fate()
+    ensures packet { (s : SystemState) (came : Neighbour) (p : Packet) (following : List ℕ)
+        → AllByRecursion IsPort s.attached.ports → IsCarriable p
+        → HasOneFate s p following (packet_comes s came p following) }
+    ensures frame { (s : SystemState) (port : ℕ) (sender : List ℕ) (to_group : Bool) (p : Packet) (following : List ℕ)
+        → AllByRecursion IsPort s.attached.ports → IsCarriable p
+        → HasOneFateInFrame s p following (step s (FrameComes port sender to_group (Labelled p following))) }
+    ensures octets { (s : SystemState) (port : ℕ) (sender : List ℕ) (to_group : Bool) (octets : List ℕ)
+        → TellsOfOctets (step s (FrameComes port sender to_group (Unlabelled octets))).outputs }
+    ensures told { (s : SystemState) (p : Packet) (following : List ℕ) (effect : Effect)
+        → HasOneFate s p following effect → effect.outputs ≢ [] }
+{
+    laws_of_edits();
+}
 
 /// Why a packet that comes is discarded, where it is for another address: its lifetime is over, before it came (`over`) or on
 /// the way (`transit`); its complete source route doesn't lead here (`off_route`), or another system stands before the next one
@@ -444,6 +463,18 @@ pub fn what_is_noted_was_told()
     ensures tick { (s : SystemState) (now : ℕ) → AllByRecursion (TellsOnly NoteIsQuiet) (tick s now).actions }
 {}
 
+/// A unit that is asked for is made, noted, and sent whole to its next hop, or its discard is noted with the reason; or it is
+/// refused with a note. So is each unit that a step makes: it is sent whole, or its discard is noted.
+pub fn each_unit_is_sent_or_dropped()
+    ensures asked { (s : SystemState) (from to octets : List ℕ) (ask : Ask) → AllByRecursion IsPort s.attached.ports
+        → MakesOrRefuses s Dt from to octets (step s (AsksToSend from to octets ask)) }
+    ensures echo { (s : SystemState) (from to octets : List ℕ) → AllByRecursion IsPort s.attached.ports
+        → MakesOrRefuses s Erq from to octets (step s (AsksForEcho from to octets)) }
+    ensures each { (s : SystemState) (input : Input) → IsSystem s.configuration → AllByRecursion IsPort s.attached.ports
+        → IsFair input → All IsAddress s.configuration.addresses → KeepsAsOffered s
+        → AllByRecursion (GivesOutFor (at_moment (moment_after s input) s) (step s input).outputs) (step s input).units }
+{}
+
 /// A discard for a rule of PDUs is noted only where octets come that spell no PDU.
 pub fn rules_are_noted_of_octets_alone()
     ensures { (s : SystemState) (input : Input) → SpellsPdus input
@@ -465,6 +496,16 @@ pub fn each_ended_buffer_is_taken_out()
         → AllByRecursion (Contains s.buffers) (step s (MomentComes now)).after.buffers }
     ensures stays { (s : SystemState) (now : ℕ)
         → AllByRecursion (StaysUnlessEnded now s.buffers (step s (MomentComes now)).after.buffers) s.buffers }
+{}
+
+/// What is kept stays or is told of, whatever comes: each buffer is left as it is, or with the segment that comes, kept in it; or
+/// that segment makes its unit whole, which is told with the unit's data; or its time has ended, or the system is restarted, which
+/// is noted. So each segment is still kept, or one of these is told of its buffer.
+pub fn what_is_kept_stays_or_is_told()
+    ensures buffers { (s : SystemState) (input : Input) → AllByRecursion IsPort s.attached.ports
+        → AllByRecursion (StaysOrIsTold s input (step s input)) s.buffers }
+    ensures segments { (s : SystemState) (input : Input) → AllByRecursion IsPort s.attached.ports
+        → AllByRecursion (SegmentsStayOrAreTold s input (step s input)) s.buffers }
 {}
 
 /// A restart leaves a system as at its start, quiet for as long as an identifier rests, but for its place, its moment, the count of

@@ -1,0 +1,8 @@
+use Rattle.clnp_machine.proofs.Staying.{segments_stay_or_are_told, stays_or_is_told}
+use Rattle.clnp_machine.proofs.laws.what_is_kept_stays_or_is_told.Goals as goal
+
+pub returns-clause-buffers : goal.returns-clause-buffers
+returns-clause-buffers c = stays_or_is_told
+
+pub returns-clause-segments : goal.returns-clause-segments
+returns-clause-segments c = segments_stay_or_are_told
