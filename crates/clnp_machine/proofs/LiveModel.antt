@@ -6,4 +6,5 @@ pub mod Stepping
 pub mod Courses
 pub mod Attachments
 pub mod Events
+pub mod Safe
 pub mod Worked

@@ -6,3 +6,4 @@ pub mod Parts
 pub mod Ports
 pub mod Steps
 pub mod Events
+pub mod Safe

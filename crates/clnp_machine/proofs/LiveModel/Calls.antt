@@ -48,7 +48,7 @@ outputs_idle [] node = tt
 outputs_idle (output ∷ outputs) node =
     uses_then (puts_out node output []) (λ other left. puts_all_out other outputs left) (output_idle output node) (λ other. outputs_idle outputs other)
 
-comes_idle : (node : Node) (input : Input) → UsesAll (comes node input [])
+pub comes_idle : (node : Node) (input : Input) → UsesAll (comes node input [])
 comes_idle node input = outputs_idle (step node.system input).outputs (record node { system = (step node.system input).after })
 
 inputs_idle : (inputs : List Input) (node : Node) → UsesAll (come_all node inputs [])

@@ -15,6 +15,7 @@ ghost use Rattle.clnp_machine.specs.LiveModel.Course.{IsNone, Transcript, Turn, 
 ghost use Rattle.clnp_machine.specs.LiveModel.Events.{IsFirstDue, IsLaterThan, done_in, waiting_behind};
 ghost use Rattle.clnp_machine.specs.LiveModel.Parts.{CourseBeginsWith, HasNextCall, IfAny, IfBreaks, IfRuns, IfWhole, IsLonger, IsUnfinished, call_of, is_of};
 ghost use Rattle.clnp_machine.specs.LiveModel.Ports.{EachLooksOnce, PortsGo, TakesWritten, failed_in, gone_in};
+ghost use Rattle.clnp_machine.specs.LiveModel.Safe.{LiveRunsAreSafe};
 ghost use Rattle.clnp_machine.specs.LiveModel.Steps.{TakesSteps, inputs_of, last_moment};
 
 /// The run of a scenario of one system is that of this system's turns, from the moment at which it started. Its system is quiet
@@ -129,3 +130,12 @@ pub fn events_are_done_in_order()
     ensures waiting { (moments : List ℕ) (dues : List Due)
         → AllByRecursion (IsLaterThan moments) (waiting_behind moments dues) }
 {}
+
+/// Whatever comes of its links, and whatever frames they give, the one system of a scenario never holds more octets for
+/// reassembly than its budget, and a redirect that it sees changes the next hop towards the redirect's destination alone (ISO
+/// 9542, section 6.9).
+pub fn live_runs_are_safe()
+    ensures { (plan : Plan) → LiveRunsAreSafe plan }
+{
+    crate::laws::a_redirect_changes_one_next_hop();
+}
