@@ -4,10 +4,11 @@ use Rattle.std.specs.Prelude.{IfSome}
 use Rattle.std.proofs.lemmas.List.{append-nil, nil_from_length, take_all, take-append-le}
 use Rattle.std.proofs.lemmas.Bool.{cases_lt, lt-ltb, le-ltb}
 use Rattle.std.proofs.Math.Seq.{take-append-add}
-use Rattle.std.proofs.KnownBytes.{Appends-trans, Consumes-nil}
+use Rattle.std.proofs.KnownBytes.{Consumes-nil}
 use Rattle.std.specs.Io.KnownBytes.{Appends, Consumes, IsAtEnd}
 use Rattle.hex.specs.Hex.{IsBytes}
 use Rattle.clnp_base.specs.Streams.{AppendsFront, Rose}
+use Rattle.clnp_base.specs.CommandBase.Reading.{Excuses}
 use Rattle.clnp_base.specs.declared.command_base.status.Status.{Status}
 use Rattle.clnp_base.specs.declared.command_base.status.Status.TheVariants.{Done, BadWords, TooLong, BadInput, WorldFull, LinksGone, ReadFault, WriteFault, NoMemory}
 use Rattle.clnp_base.proofs.CommandBase.Fronts.{front-longer}
@@ -21,9 +22,9 @@ use Rattle.frame_links.proofs.PcapFrames.OneReading.{fault_stays, read_once}
 use Rattle.captures.specs.declared.capture_commands.form.Form.{Form}
 use Rattle.captures.specs.declared.capture_commands.teller.Teller.{Teller}
 use Rattle.captures.specs.CaptureCommands.Called.{Calls, fault_status, has_fault, long_status, most_octets, status_read, whole_status}
-use Rattle.captures.specs.CaptureCommands.Serves.{Answers, Came, ComesTo, IsDecided, IsExcused, ServesFile, WritesFront, WritesSome}
-use Rattle.captures.specs.CaptureCommands.Underway.{FinishOf, GoesOn, StopOf, TellsSome, Underway}
-use Rattle.captures.proofs.CaptureCommands.Steps.{cut, told_so_far, underway_first}
+use Rattle.captures.specs.CaptureCommands.Serves.{Answers, Came, ComesTo, IsDecided, ServesFile, WritesFront, WritesSome}
+use Rattle.captures.specs.CaptureCommands.Underway.{GoesOn, StopOf, TellsSome, Told}
+use Rattle.captures.proofs.CaptureCommands.Steps.{told_first}
 use Rattle.captures.proofs.CaptureCommands.ToldLines.{AreOctets, SomeLine, some_output, tells_append}
 
 -- ---- octets within the limit
@@ -134,56 +135,38 @@ stopped law form a b c d octets within (WorldFull weight) consumed limited s = a
 stopped law form a b c d octets within (LinksGone links) consumed limited s = absurd s
 stopped law form a b c d octets within ReadFault consumed limited s = absurd s
 
--- writing the block at the end failed
-finish_failed : SomeLine → (t : Teller) (a b c d e : Option (List ℕ)) (taken octets : List ℕ) (answer : Status) → Underway [] t taken c d
-    → Consumes a b octets → Limited octets taken → answer ≡ WriteFault → AppendsFront d e t.block.items → ComesTo t.form a b c e answer
-finish_failed law t a b c d e taken octets answer w consumed limited is p =
-    subst (ComesTo t.form a b c e) (sym is)
-    (all_told law t.form a b c e octets taken consumed limited (cut t t.form taken c d e w refl p))
-
--- the records that are read of the octets, of which none is untold
-read_so_far : (t : Teller) (taken : List ℕ) (c d : Option (List ℕ)) → (w : Underway [] t taken c d)
-    → IsReadAs taken (w.made ++ w.waiting) (ending_of t.reader)
-read_so_far t taken c d w =
-    subst (λ (rs : List Captured). IsReadAs taken rs (ending_of t.reader)) (append-nil (w.made ++ w.waiting))
-    (taken_is_read t.reader taken ((w.made ++ w.waiting) ++ []) w.stands)
-
--- the octets call for this answer, and the block was written
-answered : (t : Teller) (a b c d e : Option (List ℕ)) (taken octets : List ℕ) (answer : Status) → (w : Underway [] t taken c d)
+-- the octets call for this answer
+answered : (t : Teller) (a b c d : Option (List ℕ)) (taken octets : List ℕ) (answer : Status) → (w : Told t taken c d)
     → Consumes a b octets → Limited octets taken → IsDecided b octets (ending_of t.reader)
-    → answer ≡ status_read octets (w.made ++ w.waiting) (ending_of t.reader) → Appends d e t.block.items
-    → Answers t.form a b c e answer
-answered t a b c d e taken octets answer w consumed limited decided is p =
+    → answer ≡ status_read octets w.records (ending_of t.reader) → Answers t.form a b c d answer
+answered t a b c d taken octets answer w consumed limited decided is =
     record {
       octets = octets;
-      records = w.made ++ w.waiting;
+      records = w.records;
       ending = ending_of t.reader;
-      came = came a b octets taken (w.made ++ w.waiting) (ending_of t.reader) consumed limited (read_so_far t taken c d w);
+      came = came a b octets taken w.records (ending_of t.reader) consumed limited (taken_is_read t.reader taken w.records w.stands);
       decided = decided;
       answer = is;
-      output = w.output ++ t.block.items;
-      tells = told_so_far [] t taken c d w;
-      appended = Appends-trans c d e w.output t.block.items w.appended p;
+      output = w.output;
+      tells = w.tells;
+      appended = w.appended;
     }
 
 -- the source failed
-pub read_failed : SomeLine → (t : Teller) (a b c d e : Option (List ℕ)) (taken : List ℕ) (answer : Status) → Underway [] t taken c d
-    → Consumes a b taken → length taken ≤ most_octets → FinishOf ReadFault t.block.items d e answer → ComesTo t.form a b c e answer
-read_failed law t a b c d e taken answer w consumed within (inl p) =
-    subst (ComesTo t.form a b c e) (sym p.0)
-    (record {
+pub read_failed : (t : Teller) (a b c d : Option (List ℕ)) (taken : List ℕ) → Told t taken c d → Consumes a b taken → length taken ≤ most_octets
+    → ComesTo t.form a b c d ReadFault
+read_failed t a b c d taken w consumed within =
+    record {
       octets = taken;
-      records = w.made ++ w.waiting;
+      records = w.records;
       ending = ending_of t.reader;
-      came = came a b taken taken (w.made ++ w.waiting) (ending_of t.reader) consumed (limited_all taken within) (read_so_far t taken c d w);
+      came = came a b taken taken w.records (ending_of t.reader) consumed (limited_all taken within) (taken_is_read t.reader taken w.records w.stands);
       within = within;
       no_fault = w.going;
-      output = w.output ++ t.block.items;
-      tells = told_so_far [] t taken c d w;
-      appended = Appends-trans c d e w.output t.block.items w.appended p.1;
-    })
-read_failed law t a b c d e taken answer w consumed within (inr p) =
-    finish_failed law t a b c d e taken taken answer w consumed (limited_all taken within) p.0 p.1
+      output = w.output;
+      tells = w.tells;
+      appended = w.appended;
+    }
 
 -- the answer to a whole file is one that is given with all lines
 whole_comes : (form : Form) (a b c e : Option (List ℕ)) (size whole : ℕ) (ending : Ending) → has_fault ending ≡ false
@@ -193,32 +176,26 @@ whole_comes form a b c e size whole (CutOff count) going answers = answers
 whole_comes form a b c e size whole (Faulty fault) going answers = cc going
 
 -- the source is at its end
-pub read_whole : SomeLine → (t : Teller) (a b c d e : Option (List ℕ)) (taken : List ℕ) (given answer : Status) → Underway [] t taken c d
-    → Consumes a b taken → length taken ≤ most_octets → IsAtEnd b → given ≡ whole_status t.size t.number (ending_of t.reader)
-    → FinishOf given t.block.items d e answer → ComesTo t.form a b c e answer
-read_whole law t a b c d e taken given answer w consumed within at_end is (inl p) =
+read_whole : (t : Teller) (a b c d : Option (List ℕ)) (taken : List ℕ) (answer : Status) → Told t taken c d
+    → Consumes a b taken → length taken ≤ most_octets → IsAtEnd b → answer ≡ whole_status t.size t.number (ending_of t.reader)
+    → ComesTo t.form a b c d answer
+read_whole t a b c d taken answer w consumed within at_end is =
     let ending = ending_of t.reader in
-    let read : whole_status t.size t.number ending ≡ status_read taken (w.made ++ w.waiting) ending =
+    let read : whole_status t.size t.number ending ≡ status_read taken w.records ending =
     ap (λ (n : ℕ). whole_status n t.number ending) w.sized
     ∙ ap (λ (n : ℕ). whole_status (length taken) n ending) w.counted
-    ∙ sym (answer_within taken (w.made ++ w.waiting) ending within) in
-    subst (ComesTo t.form a b c e) (sym (p.0 ∙ is))
-    (whole_comes t.form a b c e t.size t.number ending w.going
-    (answered t a b c d e taken taken (whole_status t.size t.number ending) w consumed (limited_all taken within) (inr (inr at_end)) read p.1))
-read_whole law t a b c d e taken given answer w consumed within at_end is (inr p) =
-    finish_failed law t a b c d e taken taken answer w consumed (limited_all taken within) p.0 p.1
+    ∙ sym (answer_within taken w.records ending within) in
+    subst (ComesTo t.form a b c d) (sym is)
+    (whole_comes t.form a b c d t.size t.number ending w.going
+    (answered t a b c d taken taken (whole_status t.size t.number ending) w consumed (limited_all taken within) (inr (inr at_end)) read))
 
 -- too many octets came
-pub read_beyond : SomeLine → (t : Teller) (a b c d e : Option (List ℕ)) (taken octets : List ℕ) (answer : Status) → Underway [] t taken c d
-    → Consumes a b octets → Limited octets taken → most_octets < length octets → FinishOf TooLong t.block.items d e answer
-    → ComesTo t.form a b c e answer
-read_beyond law t a b c d e taken octets answer w consumed limited beyond (inl p) =
+read_beyond : (t : Teller) (a b c d : Option (List ℕ)) (taken octets : List ℕ) → Told t taken c d
+    → Consumes a b octets → Limited octets taken → most_octets < length octets → ComesTo t.form a b c d TooLong
+read_beyond t a b c d taken octets w consumed limited beyond =
     let ending = ending_of t.reader in
-    subst (ComesTo t.form a b c e) (sym p.0)
-    (answered t a b c d e taken octets TooLong w consumed limited (inr (inl beyond))
-    (sym (answer_beyond octets (w.made ++ w.waiting) ending beyond ∙ too_long (length (w.made ++ w.waiting)) ending w.going)) p.1)
-read_beyond law t a b c d e taken octets answer w consumed limited beyond (inr p) =
-    finish_failed law t a b c d e taken octets answer w consumed limited p.0 p.1
+    answered t a b c d taken octets TooLong w consumed limited (inr (inl beyond))
+    (sym (answer_beyond octets w.records ending beyond ∙ too_long (length w.records) ending w.going))
 
 -- ---- a piece that came
 
@@ -246,38 +223,37 @@ limited_piece taken piece size within sized few most is =
     ]
 
 -- no octet came
-pub piece_none : SomeLine → (t : Teller) (a b c d e : Option (List ℕ)) (taken piece : List ℕ) (given answer : Status) → Underway [] t taken c d
+pub piece_none : (t : Teller) (a b c d : Option (List ℕ)) (taken piece : List ℕ) (answer : Status) → Told t taken c d
     → Consumes a b (taken ++ piece) → (length piece ≡ 0 → IsAtEnd b) → length piece ≡ 0 → t.size ≤ most_octets
-    → (has_fault (ending_of t.reader) ≡ false → given ≡ whole_status t.size t.number (ending_of t.reader))
-    → FinishOf given t.block.items d e answer → ComesTo t.form a b c e answer
-piece_none law t a b c d e taken piece given answer w consumed at_end none within is finish =
+    → (has_fault (ending_of t.reader) ≡ false → answer ≡ whole_status t.size t.number (ending_of t.reader)) → ComesTo t.form a b c d answer
+piece_none t a b c d taken piece answer w consumed at_end none within is =
     let sized = w.sized in
     let all : taken ++ piece ≡ taken = ap (λ (xs : List ℕ). taken ++ xs) (nil_from_length piece none) ∙ append-nil taken in
-    read_whole law t a b c d e taken given answer w (subst (Consumes a b) all consumed) (omega arith) (at_end none) (is w.going) finish
+    read_whole t a b c d taken answer w (subst (Consumes a b) all consumed) (omega (arith, sized, within)) (at_end none) (is w.going)
 
 -- the octets of a piece within the limit were taken
 within_whole : (piece : List ℕ) (size within : ℕ) → length piece ≤ most_octets - size → within ≡ min (length piece) (most_octets - size)
     → take within piece ≡ piece
 within_whole piece size within fits is = take_all within piece (omega arith)
 
-pub piece_goes_on : (n : Teller) (a b c e : Option (List ℕ)) (taken piece : List ℕ) (size within : ℕ) → Underway [] n (taken ++ take within piece) c e
-    → Consumes a b (taken ++ piece) → length piece ≤ most_octets - size → within ≡ min (length piece) (most_octets - size) → GoesOn n a b c e
-piece_goes_on n a b c e taken piece size within w consumed fits is =
+pub piece_goes_on : (n : Teller) (a b c d : Option (List ℕ)) (taken piece : List ℕ) (size within : ℕ) → Told n (taken ++ take within piece) c d
+    → Consumes a b (taken ++ piece) → length piece ≤ most_octets - size → within ≡ min (length piece) (most_octets - size) → GoesOn n a b c d
+piece_goes_on n a b c d taken piece size within w consumed fits is =
     record {
       taken = taken ++ piece;
       consumed = consumed;
-      underway = subst (λ (xs : List ℕ). Underway [] n (taken ++ xs) c e) (within_whole piece size within fits is) w;
+      told = subst (λ (xs : List ℕ). Told n (taken ++ xs) c d) (within_whole piece size within fits is) w;
     }
 
 -- one octet is beyond the limit
-pub piece_beyond : SomeLine → (n : Teller) (form : Form) (a b c d e : Option (List ℕ)) (taken piece : List ℕ) (size within : ℕ) (answer : Status)
-    → Underway [] n (taken ++ take within piece) c d → Consumes a b (taken ++ piece) → size ≡ length taken → size + length piece ≤ most_octets + 1
+pub piece_beyond : (n : Teller) (form : Form) (a b c d : Option (List ℕ)) (taken piece : List ℕ) (size within : ℕ)
+    → Told n (taken ++ take within piece) c d → Consumes a b (taken ++ piece) → size ≡ length taken → size + length piece ≤ most_octets + 1
     → size ≤ most_octets → within ≡ min (length piece) (most_octets - size) → most_octets - size < length piece → n.form ≡ form
-    → FinishOf TooLong n.block.items d e answer → ComesTo form a b c e answer
-piece_beyond law n form a b c d e taken piece size within answer w consumed sized few most is beyond same finish =
-    subst (λ (f : Form). ComesTo f a b c e answer) same
-    (read_beyond law n a b c d e (taken ++ take within piece) (taken ++ piece) answer w consumed (limited_piece taken piece size within sized few most is)
-    (omega (arith, length-append taken piece)) finish)
+    → ComesTo form a b c d TooLong
+piece_beyond n form a b c d taken piece size within w consumed sized few most is beyond same =
+    subst (λ (f : Form). ComesTo f a b c d TooLong) same
+    (read_beyond n a b c d (taken ++ take within piece) (taken ++ piece) w consumed (limited_piece taken piece size within sized few most is)
+    (omega (arith, length-append taken piece)))
 
 -- ---- where the source tells its octets
 
@@ -353,13 +329,13 @@ excused P Q None h = tt
 excused P Q (Some x) h = inr h
 
 called_or_excused : (form : Form) (a b c d : Option (List ℕ)) (R W : Type 0) (status : Status) → ComesTo form a b c d status
-    → (status ≡ ReadFault → R) → (status ≡ WriteFault → W) → IfSome a (λ octets. Calls octets status ⊎ IsExcused R W status)
+    → (status ≡ ReadFault → R) → (status ≡ WriteFault → W) → IfSome a (λ octets. Calls octets status ⊎ Excuses R W status)
 called_or_excused form a b c d R W Done h r w =
-    either (λ octets. Calls octets Done) (IsExcused R W Done) a (answer_called form a b c d Done h)
+    either (λ octets. Calls octets Done) (Excuses R W Done) a (answer_called form a b c d Done h)
 called_or_excused form a b c d R W (BadInput line code) h r w =
-    either (λ octets. Calls octets (BadInput line code)) (IsExcused R W (BadInput line code)) a (answer_called form a b c d (BadInput line code) h)
+    either (λ octets. Calls octets (BadInput line code)) (Excuses R W (BadInput line code)) a (answer_called form a b c d (BadInput line code) h)
 called_or_excused form a b c d R W TooLong h r w =
-    either (λ octets. Calls octets TooLong) (IsExcused R W TooLong) a (answer_called form a b c d TooLong h)
+    either (λ octets. Calls octets TooLong) (Excuses R W TooLong) a (answer_called form a b c d TooLong h)
 called_or_excused form a b c d R W ReadFault h r w = excused (λ octets. Calls octets ReadFault) R a (r refl)
 called_or_excused form a b c d R W WriteFault h r w = excused (λ octets. Calls octets WriteFault) W a (w refl)
 called_or_excused form a b c d R W NoMemory h r w = excused (λ octets. Calls octets NoMemory) (Unit {0}) a tt
@@ -415,7 +391,7 @@ Rose-later a b c le rose = omega arith
 
 pub goes_first : (t : Teller) (form : Form) (a c : Option (List ℕ))
     → ((t.form ≡ form) × (t.reader ≡ InHeader []) × (t.number ≡ 0) × (t.size ≡ 0) × (t.block.items ≡ [])) → GoesOn t a a c c
-goes_first t form a c h = record { taken = []; consumed = Consumes-nil a; underway = underway_first t c h.1 h.2 h.3 h.4 }
+goes_first t form a c h = record { taken = []; consumed = Consumes-nil a; told = told_first t c h.1 h.2 h.3 h.4 }
 
 -- ---- one answer
 

@@ -7,7 +7,7 @@ use Rattle.std.proofs.KnownBytes.{Appends-nil, Appends-trans}
 use Rattle.std.specs.Io.KnownBytes.{Appends}
 use Rattle.std.specs.Option.{option_to_list}
 use Rattle.std.proofs.lemmas.Option.{same_Some}
-use Rattle.std.specs.Prelude.{◌↔◌, is_some}
+use Rattle.std.specs.Prelude.{◌↔◌, OnErr, OnOk, is_some}
 use Rattle.hex.specs.Hex.{IsBytes}
 use Rattle.clnp_base.specs.Streams.{AppendsFront}
 use Rattle.clnp_base.specs.declared.command_base.block.LineStop.{LineStop}
@@ -28,7 +28,7 @@ use Rattle.captures.specs.declared.capture_commands.form.Form.{Form}
 use Rattle.captures.specs.declared.capture_commands.teller.Teller.{Teller}
 use Rattle.captures.specs.CaptureCommands.Lines.{TellsRecord, TellsRecords}
 use Rattle.captures.specs.CaptureCommands.Called.{fault_status, has_fault}
-use Rattle.captures.specs.CaptureCommands.Underway.{Breaks, FinishOf, StopOf, TellsSome, Underway}
+use Rattle.captures.specs.CaptureCommands.Underway.{Breaks, FinishOf, StopOf, TellsOf, TellsSome, Told, Underway}
 use Rattle.captures.proofs.CaptureCommands.ToldLines.{tells_both, tells_push}
 
 -- ---- octets
@@ -43,12 +43,10 @@ bytes_both xs ys a b = λ i. elim (cases_lt i (length xs)) [
 -- ---- a teller and what it told
 
 -- a teller at the beginning
-pub underway_first : (t : Teller) (a : Option (List ℕ)) → t.reader ≡ InHeader [] → t.number ≡ 0 → t.size ≡ 0 → t.block.items ≡ []
-    → Underway [] t [] a a
-underway_first t a reader number size block =
+pub told_first : (t : Teller) (a : Option (List ℕ)) → t.reader ≡ InHeader [] → t.number ≡ 0 → t.size ≡ 0 → t.block.items ≡ [] → Told t [] a a
+told_first t a reader number size block =
     record {
-      made = [];
-      waiting = [];
+      records = [];
       stands = subst (λ (r : Reading). Stands r [] []) (sym reader) (record { same = refl; few = omega arith; none = refl });
       going = ap (λ (r : Reading). has_fault (ending_of r)) reader;
       bytes = λ i. omega arith;
@@ -57,13 +55,48 @@ underway_first t a reader number size block =
       output = [];
       tells = refl;
       appended = Appends-nil a;
-      waits = block;
+      none_waits = block;
+    }
+
+-- where no line waits
+pub told_all : (t : Teller) (taken : List ℕ) (a b : Option (List ℕ)) → Told t taken a b → Underway [] t taken a b
+told_all t taken a b w =
+    record {
+      made = w.records;
+      waiting = [];
+      stands = subst (λ (rs : List Captured). Stands t.reader taken rs) (sym (append-nil (w.records ++ []) ∙ append-nil w.records)) w.stands;
+      going = w.going;
+      bytes = w.bytes;
+      sized = w.sized;
+      counted = w.counted ∙ ap length (sym (append-nil w.records));
+      output = w.output;
+      tells = w.tells;
+      appended = w.appended;
+      waits = w.none_waits;
     }
 
 -- the output that is written and the lines that wait
-pub told_so_far : (u : List Captured) (t : Teller) (taken : List ℕ) (a b : Option (List ℕ)) → (w : Underway u t taken a b)
+told_so_far : (u : List Captured) (t : Teller) (taken : List ℕ) (a b : Option (List ℕ)) → (w : Underway u t taken a b)
     → TellsRecords t.form 1 (w.made ++ w.waiting) (w.output ++ t.block.items)
 told_so_far u t taken a b w = tells_both t.form w.made w.waiting w.output t.block.items w.tells w.waits
+
+-- the lines that waited are written
+pub all_written : (t n : Teller) (taken : List ℕ) (a b c : Option (List ℕ)) → Underway [] t taken a b → n ≡ record t { block = n.block }
+    → Appends b c t.block.items → n.block.items ≡ [] → Told n taken a c
+all_written t n taken a b c w same p none =
+    subst (λ (m : Teller). Told m taken a c) (sym same)
+    (record {
+      records = w.made ++ w.waiting;
+      stands = subst (λ (rs : List Captured). Stands t.reader taken rs) (append-nil (w.made ++ w.waiting)) w.stands;
+      going = w.going;
+      bytes = w.bytes;
+      sized = w.sized;
+      counted = w.counted;
+      output = w.output ++ t.block.items;
+      tells = told_so_far [] t taken a b w;
+      appended = Appends-trans a b c w.output t.block.items w.appended p;
+      none_waits = none;
+    })
 
 -- a record came whole, and its line was put into the block
 pub told_one : (c : Captured) (t n : Teller) (taken line : List ℕ) (a b : Option (List ℕ)) → Underway (c ∷ []) t taken a b
@@ -274,6 +307,14 @@ cut t form taken a b c w same p =
       tells = subst (λ (f : Form). TellsRecords f 1 (w.made ++ w.waiting) (w.output ++ t.block.items)) same (told_so_far [] t taken a b w);
       wrote = front-behind a b c w.output t.block.items w.appended p;
     }
+
+-- the lines that wait are written, or the sink fails
+pub wait_no_more : {A : Type 0} → (t n : Teller) (form : Form) (taken : List ℕ) (a b c : Option (List ℕ)) (r : Result A Status) → Underway [] t taken a b
+    → t.form ≡ form → n ≡ record t { block = n.block } → OnOk r (n.block.items ≡ []) → OnOk r (Appends b c t.block.items)
+    → OnErr r (AppendsFront b c t.block.items) → ((answer : Status) → r ≡ Err answer → answer ≡ WriteFault) → TellsOf form n taken a c r
+wait_no_more t n form taken a b c (Ok x) w form_is same none done front refused = all_written t n taken a b c w same done none
+wait_no_more t n form taken a b c (Err answer) w form_is same none done front refused =
+    subst (StopOf form taken a c) (sym (refused answer refl)) (cut t form taken a b c w form_is front)
 
 -- a block that isn't written whole has a front written
 pub block_cut : (A : Type 0) (old new : List ℕ) (b c : Option (List ℕ)) (stop : LineStop) → BlockOf {A = A} old new b c (Err stop) → AppendsFront b c old

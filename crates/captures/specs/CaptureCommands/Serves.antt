@@ -2,6 +2,7 @@
 use Rattle.std.specs.Prelude.{◌≡◌, ℕ, ◌+◌, ◌<◌, ◌≤◌, ◌⊎◌, true, false, List, ◌++◌, length, take, Option, IfSome}
 use Rattle.std.specs.Io.KnownBytes.{Appends, Consumes, IsAtEnd}
 use Rattle.clnp_base.specs.Streams.{AppendsFront}
+use Rattle.clnp_base.specs.CommandBase.Reading.{Excuses}
 use Rattle.clnp_base.specs.declared.command_base.status.Status.{Status}
 use Rattle.clnp_base.specs.declared.command_base.status.Status.TheVariants.{Done, BadWords, TooLong, BadInput, WorldFull, LinksGone, ReadFault, WriteFault, NoMemory}
 use Rattle.frame_links.specs.PcapFrames.File.{Captured}
@@ -81,20 +82,12 @@ ComesTo form left_before left_after before after (BadWords at) = ⊥
 ComesTo form left_before left_after before after (WorldFull octets) = ⊥
 ComesTo form left_before left_after before after (LinksGone links) = ⊥
 
--- The excuses for an answer that the octets don't call for: want of memory, which is free, and a fault of the source or
--- of the sink, which must have come in this call.
-abbrev pub IsExcused : Type 0 → Type 0 → Status → Type 0
-IsExcused read_rose write_rose NoMemory = Unit {0}
-IsExcused read_rose write_rose ReadFault = read_rose
-IsExcused read_rose write_rose WriteFault = write_rose
-IsExcused read_rose write_rose _ = ⊥
-
 -- What a call comes to with this answer: `left_before` and `left_after` are what the source has left, `before` and `after`
 -- what stands in the sink, where they tell it; `read_rose` and `write_rose` say that they failed in this call.
 pub record ServesFile (form : Form) (left_before left_after before after : Option (List ℕ)) (read_rose write_rose : Type 0) (status : Status) : Type 0 where
   -- Where the source tells its octets, the answer is the one that they call for, but for want of memory and for faults
   -- that came in this call.
-  pub answer : IfSome left_before (λ octets. Calls octets status ⊎ IsExcused read_rose write_rose status)
+  pub answer : IfSome left_before (λ octets. Calls octets status ⊎ Excuses read_rose write_rose status)
   -- What was taken and what was written.
   pub comes_to : ComesTo form left_before left_after before after status
   -- The faults came in this call.

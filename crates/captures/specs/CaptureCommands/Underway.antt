@@ -29,6 +29,19 @@ pub record Underway (untold : List Captured) (t : Teller) (taken : List ℕ) (be
   pub appended : Appends before after output
   pub waits : TellsRecords t.form (length made + 1) waiting t.block.items
 
+-- A teller took these octets, and the lines of exactly the records that came whole in them are written: none waits.
+pub record Told (t : Teller) (taken : List ℕ) (before after : Option (List ℕ)) : Type 0 where
+  pub records : List Captured
+  pub stands : Stands t.reader taken records
+  pub going : has_fault (ending_of t.reader) ≡ false
+  pub bytes : IsBytes taken
+  pub sized : t.size ≡ length taken
+  pub counted : t.number ≡ length records
+  pub output : List ℕ
+  pub tells : TellsRecords t.form 1 records output
+  pub appended : Appends before after output
+  pub none_waits : t.block.items ≡ []
+
 -- The octets have a fault that is answered so, and the lines of the records before it were written.
 pub record Breaks (form : Form) (octets : List ℕ) (before after : Option (List ℕ)) (answer : Status) : Type 0 where
   pub records : List Captured
@@ -62,7 +75,12 @@ StopOf form octets before after (WorldFull weight) = ⊥
 StopOf form octets before after (LinksGone links) = ⊥
 StopOf form octets before after ReadFault = ⊥
 
--- What taking octets comes to, where these were taken in all.
+-- What taking a piece comes to, where these octets were taken in all.
+abbrev pub TellsOf : {A : Type 0} → Form → Teller → List ℕ → (before after : Option (List ℕ)) → Result A Status → Type 0
+TellsOf form now octets before after (Ok _) = Told now octets before after
+TellsOf form now octets before after (Err answer) = StopOf form octets before after answer
+
+-- What taking octets comes to, where these were taken in all and lines may wait.
 abbrev pub TookOf : {A : Type 0} → Form → Teller → List ℕ → (before after : Option (List ℕ)) → Result A Status → Type 0
 TookOf form now octets before after (Ok _) = Underway [] now octets before after
 TookOf form now octets before after (Err answer) = StopOf form octets before after answer
@@ -77,11 +95,12 @@ abbrev pub FinishOf : Status → List ℕ → (before after : Option (List ℕ))
 FinishOf answer block before after given =
     ((given ≡ answer) × Appends before after block) ⊎ ((given ≡ WriteFault) × AppendsFront before after block)
 
--- Octets came from the source, a teller took them, and telling goes on.
+-- Octets came from the source, and the lines of exactly the records that came whole in them are written. So it is before
+-- each read of the source.
 pub record GoesOn (now : Teller) (left_before left_after before after : Option (List ℕ)) : Type 0 where
   pub taken : List ℕ
   pub consumed : Consumes left_before left_after taken
-  pub underway : Underway [] now taken before after
+  pub told : Told now taken before after
 
 -- What reading once comes to: no answer yet, or one.
 abbrev pub NextOf : Form → Teller → (left_before left_after before after : Option (List ℕ)) → Option Status → Type 0

@@ -1,16 +1,17 @@
 //! The records of a file told as lines, piece by piece.
-ghost use Rattle.std.specs.Prelude.{◌≡◌, ◌≢◌, false, ◌+◌, ◌<◌, ◌≤◌, ◌++◌, ◌∷◌, [], ℕ, List, Option, Some, IfOk, IsSome, OnOk, Err, length};
-ghost use Rattle.clnp_base.specs.Streams.{Rose};
+ghost use Rattle.std.specs.Prelude.{◌≡◌, ◌≢◌, false, ◌+◌, ◌<◌, ◌≤◌, ◌++◌, ◌∷◌, [], ℕ, List, Option, Some, IfOk, IsSome, OnOk, OnErr, Err, length};
+ghost use Rattle.std.specs.Io.KnownBytes.{Appends};
+ghost use Rattle.clnp_base.specs.Streams.{AppendsFront, Rose};
 ghost use Rattle.frame_links.specs.PcapFrames.File.{Captured};
 ghost use Rattle.frame_links.specs.PcapFrames.Reading.{InHeader, current_of, ending_of};
 ghost use Rattle.captures.specs.CaptureCommands.Called.{has_fault, most_octets, whole_status};
-ghost use Rattle.captures.specs.CaptureCommands.Underway.{FedOf, FinishOf, TookOf, Underway};
+ghost use Rattle.captures.specs.CaptureCommands.Underway.{FedOf, FinishOf, TellsOf, Told, TookOf, Underway};
 
 use crate::capture_commands::answer::{cut_answer, fault_answer};
 use crate::capture_commands::form::Form;
 use crate::capture_commands::record_lines::push_record;
 use clnp_base::command_base::base::{NoMemory, Sink};
-use clnp_base::command_base::{Status, write_block, write_full_block};
+use clnp_base::command_base::{Status, flush, write_block, write_full_block};
 use frame_links::pcap_frames::PcapReader;
 use std::alloc::Global;
 
@@ -45,13 +46,52 @@ impl Teller {
         })
     }
 
-    /// Takes the next octets of the file, and tells each record that comes whole.
+    /// Takes the next octets of the file, and writes the line of each record that comes whole: none waits for the
+    /// octets behind them.
     ///
     /// # Errors
     ///
     /// The answer at which telling stops: a fault of the file, whose records before it are written, a fault of the sink, or
     /// want of memory.
     pub(crate) fn take<K: Sink>(&mut self, piece: &[u8], sink: &mut K) -> Result<(), Status>
+        requires few { self.old.size + length piece.now ≤ most_octets }
+        requires counted { self.old.number ≤ self.old.size }
+        ensures later { K.faults sink.old ≤ K.faults sink.new }
+        ensures size { OnOk result (self.new.size ≡ self.old.size + length piece.now) }
+        ensures counted { OnOk result (self.new.number ≤ self.new.size) }
+        ensures form { OnOk result (self.new.form ≡ self.old.form) }
+        ensures none_waits { OnOk result (self.new.block.items ≡ []) }
+        ensures tells { (taken : List ℕ) (before : Option (List ℕ))
+            → Told self.old taken before (K.written sink.old)
+            → TellsOf self.old.form self.new (taken ++ piece.now) before (K.written sink.new) result }
+        ensures read_fault { result ≢ Err Status.ReadFault }
+        ensures failed { result ≡ Err Status.WriteFault → Rose (K.faults sink.old) (K.faults sink.new) }
+    {
+        match self.take_all(piece, sink) {
+            Ok(()) => self.write_waiting(sink),
+            Err(answer) => Err(answer),
+        }
+    }
+
+    /// Writes the lines that wait.
+    fn write_waiting<K: Sink>(&mut self, sink: &mut K) -> Result<(), Status>
+        ensures later { K.faults sink.old ≤ K.faults sink.new }
+        ensures same { self.new ≡ record self.old { block = self.new.block } }
+        ensures none_waits { OnOk result (self.new.block.items ≡ []) }
+        ensures done { OnOk result (Appends (K.written sink.old) (K.written sink.new) self.old.block.items) }
+        ensures front { OnErr result (AppendsFront (K.written sink.old) (K.written sink.new) self.old.block.items) }
+        ensures refused { (answer : Status) → result ≡ Err answer → answer ≡ Status.WriteFault }
+        ensures failed { OnErr result (Rose (K.faults sink.old) (K.faults sink.new)) }
+    {
+        match flush(&mut self.block, sink) {
+            Ok(()) => Ok(()),
+            Err(_) => Err(Status::WriteFault),
+        }
+    }
+
+    /// Takes the next octets of the file, and puts the line of each record that comes whole into the block, which is
+    /// written where it is full.
+    fn take_all<K: Sink>(&mut self, piece: &[u8], sink: &mut K) -> Result<(), Status>
         requires few { self.old.size + length piece.now ≤ most_octets }
         requires counted { self.old.number ≤ self.old.size }
         ensures later { K.faults sink.old ≤ K.faults sink.new }
@@ -148,7 +188,7 @@ impl Teller {
     }
 
     /// Writes the lines that wait, and gives this answer, or that the sink failed.
-    pub(crate) fn finish<K: Sink>(&mut self, answer: Status, sink: &mut K) -> Status
+    fn finish<K: Sink>(&mut self, answer: Status, sink: &mut K) -> Status
         ensures later { K.faults sink.old ≤ K.faults sink.new }
         ensures wrote { FinishOf answer self.old.block.items (K.written sink.old) (K.written sink.new) result }
         ensures read_fault { answer ≢ Status.ReadFault → result ≢ Status.ReadFault }

@@ -6,7 +6,7 @@ ghost use Rattle.captures.specs.Shown.{Shows};
 ghost use Rattle.clnp_base.specs.Streams.{Rose};
 ghost use Rattle.captures.specs.CaptureCommands.Called.{most_octets};
 ghost use Rattle.captures.specs.CaptureCommands.Serves.{ServesFile};
-ghost use Rattle.captures.specs.CaptureCommands.Underway.{GoesOn, NextOf, Underway};
+ghost use Rattle.captures.specs.CaptureCommands.Underway.{GoesOn, NextOf, Told};
 
 use crate::capture_commands::form::Form;
 use crate::capture_commands::teller::Teller;
@@ -27,6 +27,8 @@ const CHUNK: usize = 65_536;
 /// It stops at the first fault of the file. Where no such fault was met, it stops at a fault of the source, or where
 /// more than 1,073,741,824 octets came. In each case the lines of exactly those records were written that came whole
 /// before.
+///
+/// Before it reads, which may wait, it writes the lines of all records that came whole so far.
 pub fn pcap_show<S: Source, K: Sink>(alloc: Global, source: &mut S, sink: &mut K) -> Status
     ensures later { (S.faults source.old ≤ S.faults source.new) × (K.faults sink.old ≤ K.faults sink.new) }
     ensures serves { ServesFile Form.Shown (S.left source.old) (S.left source.new)
@@ -73,6 +75,9 @@ fn tell_file<S: Source, K: Sink>(alloc: Global, form: Form, source: &mut S, sink
 
 /// Reads once into `chunk`, and has the teller take what came. Gives the answer where there is one. At most one octet
 /// more comes than a file may have.
+///
+/// A read may wait, so no line waits for it: before it the lines of all records that came whole are written
+/// (`none_waits`, and `GoesOn` in `comes_to`), and they are again where there is no answer yet.
 fn take_next<S: Source, K: Sink>(
     source: &mut S,
     chunk: &mut [u8],
@@ -83,21 +88,21 @@ fn take_next<S: Source, K: Sink>(
     requires few { teller.old.size + length chunk.old ≤ most_octets + 1 }
     requires size { teller.old.size ≤ most_octets }
     requires counted { teller.old.number ≤ teller.old.size }
+    requires none_waits { teller.old.block.items ≡ [] }
     ensures later { (S.faults source.old ≤ S.faults source.new) × (K.faults sink.old ≤ K.faults sink.new) }
     ensures size { IfNone result ((teller.old.size < teller.new.size) × (teller.new.size ≤ most_octets)) }
     ensures counted { IfNone result (teller.new.number ≤ teller.new.size) }
     ensures form { IfNone result (teller.new.form ≡ teller.old.form) }
+    ensures none_waits { IfNone result (teller.new.block.items ≡ []) }
     ensures comes_to { (left before : Option (List ℕ))
         → GoesOn teller.old left (S.left source.old) before (K.written sink.old)
         → NextOf teller.old.form teller.new left (S.left source.new) before (K.written sink.new) result }
     ensures read_fault { result ≡ Some Status.ReadFault → Rose (S.faults source.old) (S.faults source.new) }
     ensures write_fault { result ≡ Some Status.WriteFault → Rose (K.faults sink.old) (K.faults sink.new) }
 {
-    // Its clause: frames behind a stop have their lines too.
-    every_frame_is_shown();
     match source.read(chunk) {
         Ok(came) => take_piece(&chunk[..came], teller, sink),
-        Err(_) => Some(teller.finish(Status::ReadFault, sink)),
+        Err(_) => Some(Status::ReadFault),
     }
 }
 
@@ -119,8 +124,9 @@ fn take_piece<K: Sink>(piece: &[u8], teller: &mut Teller, sink: &mut K) -> Optio
     ensures size { IfNone result ((teller.old.size < teller.new.size) × (teller.new.size ≤ most_octets)) }
     ensures counted { IfNone result (teller.new.number ≤ teller.new.size) }
     ensures form { IfNone result (teller.new.form ≡ teller.old.form) }
+    ensures none_waits { IfNone result (teller.new.block.items ≡ []) }
     ensures comes_to { (taken : List ℕ) (left_before left_after before : Option (List ℕ))
-        → Underway [] teller.old taken before (K.written sink.old)
+        → Told teller.old taken before (K.written sink.old)
         → Consumes left_before left_after (taken ++ piece.now)
         → (length piece.now ≡ 0 → IsAtEnd left_after)
         → NextOf teller.old.form teller.new left_before left_after before (K.written sink.new) result }
@@ -130,8 +136,7 @@ fn take_piece<K: Sink>(piece: &[u8], teller: &mut Teller, sink: &mut K) -> Optio
     // Its clause: frames behind a stop have their lines too.
     every_frame_is_shown();
     if piece.is_empty() {
-        let answer = teller.end();
-        return Some(teller.finish(answer, sink));
+        return Some(teller.end());
     }
     let room = MOST - teller.size;
     let within = piece.len().min(room);
@@ -140,7 +145,7 @@ fn take_piece<K: Sink>(piece: &[u8], teller: &mut Teller, sink: &mut K) -> Optio
             if piece.len() <= room {
                 return None;
             }
-            Some(teller.finish(Status::TooLong, sink))
+            Some(Status::TooLong)
         }
         Err(answer) => Some(answer),
     }

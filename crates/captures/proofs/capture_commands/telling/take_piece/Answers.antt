@@ -6,28 +6,26 @@ use Rattle.captures.proofs.capture_commands.telling.take_piece.Goals as goal
 pub returns-then-is_empty-clause-comes_to : goal.returns-then-is_empty-clause-comes_to
 returns-then-is_empty-clause-comes_to g c = λ taken left_before left_after before w consumed at_end.
     let none : length c.args.piece.now ≡ 0 = grind (arith, nat_tests) in
-    piece_none c.every_frame_is_shown.ensures c.args.teller.now left_before left_after before (g.K.Sink.written c.args.sink.now)
-    (g.K.Sink.written c.finish.new.sink) taken c.args.piece.now c.end-answer.result c.finish.result w consumed at_end none c.requires.size
-    c.end-answer.ensures.ends c.finish.ensures.wrote
+    piece_none c.args.teller.now left_before left_after before (g.K.Sink.written c.args.sink.now) taken c.args.piece.now c.end.result w consumed
+    at_end none c.requires.size c.end.ensures.ends
 
 pub returns-in-Err-clause-comes_to : goal.returns-in-Err-clause-comes_to
 returns-in-Err-clause-comes_to g c = λ taken left_before left_after before w consumed at_end.
     stopped c.every_frame_is_shown.ensures c.args.teller.now.form left_before left_after before (g.K.Sink.written c.take.new.sink)
     (taken ++ c.args.piece.now) (taken ++ take c.min-within.result c.args.piece.now) c.in-Err.answer consumed
     (limited_piece taken c.args.piece.now c.args.teller.now.size c.min-within.result w.sized c.requires.few c.requires.size c.min-within.ensures)
-    (c.in-Err.ensures.takes taken before w)
+    (c.in-Err.ensures.tells taken before w)
 
 pub returns-else-piece-room-clause-comes_to : goal.returns-else-piece-room-clause-comes_to
 returns-else-piece-room-clause-comes_to g c = λ taken left_before left_after before w consumed at_end.
-    piece_beyond c.every_frame_is_shown.ensures c.take.new.self c.args.teller.now.form left_before left_after before (g.K.Sink.written c.take.new.sink)
-    (g.K.Sink.written c.finish-in-Ok.new.sink) taken c.args.piece.now c.args.teller.now.size c.min-within.result c.finish-in-Ok.result
-    (c.in-Ok.ensures.takes taken before w) consumed w.sized c.requires.few c.requires.size c.min-within.ensures c.if-piece-room.false
-    c.in-Ok.ensures.form c.finish-in-Ok.ensures.wrote
+    piece_beyond c.take.new.self c.args.teller.now.form left_before left_after before (g.K.Sink.written c.take.new.sink) taken c.args.piece.now
+    c.args.teller.now.size c.min-within.result (c.in-Ok.ensures.tells taken before w) consumed w.sized c.requires.few c.requires.size
+    c.min-within.ensures c.if-piece-room.false c.in-Ok.ensures.form
 
 pub returns-then-piece-room-clause-comes_to : goal.returns-then-piece-room-clause-comes_to
 returns-then-piece-room-clause-comes_to g c = λ taken left_before left_after before w consumed at_end.
     piece_goes_on c.take.new.self left_before left_after before (g.K.Sink.written c.take.new.sink) taken c.args.piece.now c.args.teller.now.size
-    c.min-within.result (c.in-Ok.ensures.takes taken before w) consumed c.if-piece-room.true c.min-within.ensures
+    c.min-within.result (c.in-Ok.ensures.tells taken before w) consumed c.if-piece-room.true c.min-within.ensures
 
 pub returns-then-piece-room-clause-size : goal.returns-then-piece-room-clause-size
 returns-then-piece-room-clause-size g c =

@@ -14,6 +14,7 @@ loop-answer-init g c =
       begins.0,
       omega (arith, size),
       omega (arith, size, number),
+      begins.4,
       omega (arith, c.as_mut_slice-chunk.ensures.len, c.in-Ok-vec.ensures.len),
       omega arith,
       omega arith,
@@ -26,9 +27,10 @@ loop-answer-preserved g c =
       next.form ∙ c.loop-answer.invariant.1,
       next.size.1,
       next.counted,
+      next.none_waits,
       search rules,
-      omega (arith, c.loop-answer.invariant.5, c.take_next.ensures.later.0),
-      omega (arith, c.loop-answer.invariant.6, c.take_next.ensures.later.1),
+      omega (arith, c.loop-answer.invariant.6, c.take_next.ensures.later.0),
+      omega (arith, c.loop-answer.invariant.7, c.take_next.ensures.later.1),
     )
 
 pub returns-in_default-clause-serves : goal.returns-in_default-clause-serves
@@ -53,6 +55,6 @@ returns-in-Some-clause-serves g c =
     (subst (λ (f : Form). ComesTo f left (g.S.Source.left c.take_next.new.source) before (g.K.Sink.written c.take_next.new.sink) c.in-Some.answer)
     c.loop-answer.invariant.1 comes)
     (λ is. Rose-later (g.S.Source.faults c.args.source.now) (g.S.Source.faults c.loop-answer.source) (g.S.Source.faults c.take_next.new.source)
-    c.loop-answer.invariant.5 (c.in-Some.ensures.read_fault (rw is refl)))
+    c.loop-answer.invariant.6 (c.in-Some.ensures.read_fault (rw is refl)))
     (λ is. Rose-later (g.K.Sink.faults c.args.sink.now) (g.K.Sink.faults c.loop-answer.sink) (g.K.Sink.faults c.take_next.new.sink)
-    c.loop-answer.invariant.6 (c.in-Some.ensures.write_fault (rw is refl)))
+    c.loop-answer.invariant.7 (c.in-Some.ensures.write_fault (rw is refl)))

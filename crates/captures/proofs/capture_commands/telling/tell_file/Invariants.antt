@@ -1,4 +1,4 @@
-use Rattle.std.proofs.Common.{◌≡◌, ◌-◌, ◌≤◌, length}
+use Rattle.std.proofs.Common.{◌≡◌, ◌-◌, ◌≤◌, [], length}
 use Rattle.captures.specs.CaptureCommands.Called.{most_octets}
 use Rattle.captures.specs.CaptureCommands.Underway.{GoesOn}
 use Rattle.captures.proofs.capture_commands.telling.tell_file.Given as goal
@@ -9,6 +9,7 @@ invariant-loop-answer g l =
     × (l.teller.form ≡ l.fn.form)
     × (l.teller.size ≤ most_octets)
     × (l.teller.number ≤ l.teller.size)
+    × (l.teller.block.items ≡ [])
     × (length l.chunk ≡ 65536)
     × (g.S.Source.faults l.initial.source ≤ g.S.Source.faults l.source)
     × (g.K.Sink.faults l.initial.sink ≤ g.K.Sink.faults l.sink)

@@ -1,6 +1,6 @@
 use Rattle.std.proofs.Common.{◌≡◌, ◌+◌, ◌≤◌, length}
 use Rattle.captures.proofs.CaptureCommands.Steps.{TookFront}
-use Rattle.captures.proofs.capture_commands.teller.Teller.take.Given as goal
+use Rattle.captures.proofs.capture_commands.teller.Teller.take_all.Given as goal
 
 abbrev pub invariant-loop-left : goal.invariant-loop-left
 invariant-loop-left g l =
