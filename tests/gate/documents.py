@@ -3,8 +3,8 @@
 
 - docs/PROMISES.md: each crate or part, call, clause and field in the second column of its tables. A row's second column has
   references, each behind a `;`: the crate or part, its calls, and behind them the clauses. What a reference doesn't name it has
-  from the one before in its row, and a row's first one from the heading above the table. Likewise the list of calls that
-  the program doesn't make.
+  from the one before in its row, and a row's first one from the heading above the table. A row that says no in its last
+  column names something that isn't there. Likewise the list of calls that the program doesn't make.
 - every document: each file that stands in backquotes or in a command of a fenced block, and each heading that stands in
   quotes behind a document's name.
 - docs/CHANGING.md: the words that stand in backquotes in parentheses right behind a file, in that file; and the files that
@@ -155,11 +155,16 @@ def judge_promises():
         reading = Reading(crates, place)
         for name in re.findall(NAMES, heading):
             reading.reference(f"`{name}`")
-        reading.named = 0
+        reading.named, known = 0, len(wrong)
         for reference in cells[1].split(";"):
             reading.reference(reference)
         rows += 1
         references += reading.named
+        if cells[2].startswith("no"):
+            missing = wrong[known:]
+            del wrong[known:]
+            if not missing:
+                reading.wrong("its last column says no, and all that it names is there")
         if reading.named == 0:
             reading.wrong("no call and no clause is named")
         if not re.match(r"(yes|no)\b", cells[2]):
