@@ -1,6 +1,7 @@
 //! A call of the program over its words, its input, its output and standard error.
 ghost use Rattle.std.specs.Prelude.{◌≡◌, ◌≤◌, ◌⊎◌, ℕ, false, IfOk, List, [], Ok, map, string_bytes};
-ghost use Rattle.clnp_machine.specs.ScenarioPlan.Plan.{IsClosed};
+ghost use Rattle.clnp_machine.specs.LiveModel.Safe.{LiveRunsAreSafe};
+ghost use Rattle.clnp_machine.specs.ScenarioPlan.Plan.{IsClosed, Plan};
 ghost use Rattle.clnp_program.specs.Advised.{Advised, is_bad_input};
 ghost use Rattle.clnp_program.specs.Agree.{TextsAgree};
 ghost use Rattle.clnp_safety.specs.Runs.{RunsAreSafe};
@@ -63,6 +64,9 @@ pub fn run<S: Source, K: Sink, B: Ports, C: Clock, E: Sink>(
 
     // The runs of each text that is a scenario are safe.
     ensures safe { (text : List ℕ) → IfOk (plan_of text) RunsAreSafe }
+
+    // So is the run of one system, whatever its links give.
+    ensures live { (plan : Plan) → LiveRunsAreSafe plan }
 
     // What commands make of one another's output, and what a share is worth.
     ensures agree { TextsAgree }

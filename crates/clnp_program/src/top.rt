@@ -3,7 +3,8 @@ ghost use Rattle.std.specs.Prelude.{◌≡◌, ◌≢◌, ◌≤◌, ℕ, false,
 ghost use Rattle.clnp_machine.specs.ClnpBase.Streams.{Rose};
 ghost use Rattle.scenario.specs.Grammar.{plan_of};
 ghost use Rattle.scenario.specs.ScenarioWriting.Canonical.{text_of};
-ghost use Rattle.clnp_machine.specs.ScenarioPlan.Plan.{IsClosed};
+ghost use Rattle.clnp_machine.specs.ScenarioPlan.Plan.{IsClosed, Plan};
+ghost use Rattle.clnp_machine.specs.LiveModel.Safe.{LiveRunsAreSafe};
 ghost use Rattle.scenario.specs.ScenarioWriting.Seeds as seeds;
 ghost use Rattle.clnp_safety.specs.Runs.{RunsAreSafe};
 ghost use Rattle.clnp_program.specs.Words.{command_of, reads, Reads};
@@ -34,6 +35,7 @@ use captures::capture_commands::check::check;
 use captures::capture_commands::pack::pack;
 use captures::capture_commands::show::show;
 use captures::capture_commands::{pcap_lines, pcap_make, pcap_show};
+use clnp_machine::live_model::laws::live_runs_are_safe;
 use std::alloc::Global;
 
 /// The most octets of an input.
@@ -86,6 +88,9 @@ pub fn clnp_main<S: Source, K: Sink, B: Ports, C: Clock>(
 
     // The runs of each text that is a scenario are safe.
     ensures safe { (text : List ℕ) → IfOk (plan_of text) RunsAreSafe }
+
+    // So is the run of one system, whatever its links give.
+    ensures live { (plan : Plan) → LiveRunsAreSafe plan }
 
     // What commands make of one another's output, and what a share is worth.
     ensures agree { TextsAgree }
@@ -142,11 +147,13 @@ fn serve_streamed<S: Source, K: Sink>(
     }
 }
 
-/// What is so of the runs of each text that is a scenario, those of storms among them.
+/// What is so of the runs of each text that is a scenario, those of storms among them, and of those of one system over links.
 pub(crate) fn every_run_is_safe()
     ensures storms { (seed : ℕ) → (plan_of (text_of (seeds.storm seed)) ≡ Ok (seeds.storm seed)) × IsClosed (seeds.storm seed) }
     ensures safe { (text : List ℕ) → IfOk (plan_of text) RunsAreSafe }
+    ensures live { (plan : Plan) → LiveRunsAreSafe plan }
 {
+    live_runs_are_safe();
     laws::accepted_is_fit();
     laws::storms_are_scenarios();
     runs_are_safe();
