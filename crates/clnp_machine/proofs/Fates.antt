@@ -1,8 +1,12 @@
 -- What becomes of a packet that comes: exactly one of what may.
 use Rattle.std.proofs.Common.{◌≡◌, ◌≢◌, ◌∙◌, refl, sym, ap, inl, inr, ℕ, ◌+◌, ◌<◌, ◌≤◌, Bool, true, false, List, [], ◌∷◌, ◌++◌, append-nil, length, map, Option, None, Some, Contains, arith}
-use Rattle.std.specs.Prelude.{◌==◌, ◌&&◌, nat_le, nat_lt, if◌then◌else◌, is_none, slice_get}
+use Rattle.std.specs.Prelude.{◌==◌, ◌&&◌, not, nat_le, nat_lt, if◌then◌else◌, is_none, slice_get}
 use Rattle.std.specs.List.{AllByRecursion, find, flat_map, range_with_len}
-use Rattle.std.proofs.lemmas.Bool.{and_parts, cases_Bool, cond_both, not-false}
+use Rattle.std.proofs.lemmas.Bool.{and_parts, both_ways, cases_Bool, cond_both, leb-false, leb-true, not-false, not-true}
+use Rattle.clnp_plan.proofs.ClnpBase.SameOctets.{same-itself, same_from_equal}
+use Rattle.clnp_plan.specs.ClnpOptions.Edits.{is_complete, target_of}
+use Rattle.clnp_machine.specs.Esis.{title_of}
+use Rattle.clnp_machine.specs.Ways.{IsAllowedWay, IsOnRoute, aim_of}
 use Rattle.std.proofs.lemmas.List.Elements.{Contains-append_left, Contains-append_right}
 use Rattle.std.proofs.lemmas.Option.{same_Some}
 use Rattle.clnp_plan.proofs.ClnpBase.Choices.{if_none, is_equal}
@@ -33,16 +37,16 @@ use Rattle.clnp_machine.specs.Unit.{DataUnit, Packet, IsCarriable, cut, value_of
 use Rattle.clnp_machine.specs.Content.{Labelled}
 use Rattle.clnp_machine.specs.System.{SystemState, Output, Transmits, Notes, Effect, FrameComes, gives, table_limits}
 use Rattle.clnp_machine.specs.Local.{Deed, and_then, data_in, discard, echo_ask, hand_up, is_all, is_answer, is_own, makes, octet_of, offer, offered, receive, report_unit, reports, reports_from, rests, takes_in, takes_reply, tells}
-use Rattle.clnp_machine.specs.Step.{Hop, Way, discard_refused, discards, effect_of, forwarded, hop_by, loss_at, octets_come, options_behind, outputs_of, packet_comes, passes_by, redirects, responds, step, transmissions, unheard_note}
+use Rattle.clnp_machine.specs.Step.{Hop, Way, discard_refused, discards, effect_of, ends_at, forwarded, goes_on_by, goes_on_way, goes_on_with, hop_by, is_named, no_way_to, pieces_go_on, way_of, loss_at, octets_come, options_behind, outputs_of, packet_comes, passes_by, redirects, responds, step, transmissions, unheard_note}
 use Rattle.clnp_machine.specs.EditLaws.{EditLaws}
 use Rattle.clnp_machine.specs.EveryStep.{GoesOnFrom, segments_in, sends_esis}
-use Rattle.clnp_machine.specs.Whereabouts.{DropsPacket, EndsWithHellos, Fate, GoesOn, HasOneFate, HasOneFateInFrame, IsDropped, IsHandedUp, IsKept, IsLeft, MakesWhole, Meets, SendsAllOn, TellsCause, TellsOfDiscard, TellsOfOctets, TellsOfRoom, TellsOfUnit, WasKept, together}
+use Rattle.clnp_machine.specs.Whereabouts.{CannotGoOn, IsStopped, DropsPacket, EndsWithHellos, Fate, GoesOn, HasOneFate, HasOneFateInFrame, IsDropped, IsHandedUp, IsKept, IsLeft, MakesWhole, Meets, SendsAllOn, TellsCause, TellsOfDiscard, TellsOfOctets, TellsOfRoom, TellsOfUnit, WasKept, together}
 use Rattle.clnp_machine.proofs.AllOf.{onward_is_all}
 use Rattle.clnp_machine.proofs.Asked.{discard_makes}
 use Rattle.clnp_machine.proofs.GoingOn.{its_way}
 use Rattle.clnp_machine.proofs.Hellos.{only_responds}
 use Rattle.clnp_machine.proofs.Hops.{all_where_whole}
-use Rattle.clnp_machine.proofs.Passing.{IsItsWay, going, goes_on_does, redirects_are}
+use Rattle.clnp_machine.proofs.Passing.{IsItsWay, going, redirects_are}
 use Rattle.clnp_machine.proofs.Sent.{IsPartOf, cut_is_parts, part_goes_on, sends_ranges}
 use Rattle.clnp_machine.proofs.SentUnits.{made_or_refused}
 
@@ -79,11 +83,12 @@ tale_of_cause : (reason : ℕ) (told : Note) (more : List Output) → TellsCause
 tale_of_cause reason told more (inl meets) = ap (λ (n : Note). tale (Notes n ∷ more)) meets.1
 tale_of_cause reason told more (inr room) = tale_of_room told more room.0
 
-tale_of_discard : (reason : ℕ) (told more : List Output) → TellsOfDiscard reason told → tale (told ++ more) ≡ Some IsDropped
-tale_of_discard reason told more (inl alone) = ap (λ (outputs : List Output). tale (outputs ++ more)) alone
-tale_of_discard reason told more (inr behind) =
-    ap (λ (outputs : List Output). tale (outputs ++ more)) behind.2
-    ∙ tale_of_cause reason behind.0 (Notes (note.Discard reason 0) ∷ more) behind.1
+tale_of_discard : (s : SystemState) (p : Packet) (reason : ℕ) (told more : List Output) → TellsOfDiscard s p reason told
+    → tale (told ++ more) ≡ Some IsDropped
+tale_of_discard s p reason told more (inl alone) = ap (λ (outputs : List Output). tale (outputs ++ more)) alone.0
+tale_of_discard s p reason told more (inr behind) =
+    ap (λ (outputs : List Output). tale (outputs ++ more)) behind.1
+    ∙ tale_of_cause reason behind.0 (Notes (note.Discard reason 0) ∷ more) behind.2
 
 tale_of_unit : (s : SystemState) (kind : Kind) (from to octets : List ℕ) (effect : Effect) → TellsOfUnit s kind from to octets effect
     → tale effect.outputs ≡ Some IsHandedUp
@@ -97,7 +102,7 @@ tale_of_unit s Erp from to octets effect (inr stray) = ap tale stray
 module _ (s : SystemState) (p : Packet) (following : List ℕ) where
   tale_is : (effect : Effect) (fate : Fate) → Meets s p following effect fate → tale effect.outputs ≡ Some fate
   tale_is effect GoesOn m = ap tale m.given ∙ tale_on m.hop m.pieces m.behind m.all.some
-  tale_is effect IsDropped m = ap tale m.given ∙ tale_of_discard m.reason m.told m.report m.tells
+  tale_is effect IsDropped m = ap tale m.given ∙ tale_of_discard s p m.reason m.told m.report m.tells
   tale_is effect IsHandedUp m = tale_of_unit s p.unit.kind p.unit.source p.unit.destination m.octets effect m.told
   tale_is effect IsKept m = ap tale m.told
   tale_is effect WasKept m = ap tale m.told
@@ -128,30 +133,30 @@ module _ (laws : EditLaws) (s : SystemState) (p : Packet) (following : List ℕ)
   abbrev reported : ℕ → Deed
   reported reason = reports s (wire p ++ following) reason 0
 
-  drops : (reason : ℕ) → DropsPacket s p following (effect_of (discard s (Labelled p following) reason 0))
-  drops reason =
+  drops : (reason : ℕ) → IsStopped s p reason → DropsPacket s p following (effect_of (discard s (Labelled p following) reason 0))
+  drops reason stopped =
       let deed = reported reason in
       record {
         reason = reason;
         told = Notes (note.Discard reason 0) ∷ [];
         report = flat_map (outputs_of deed.after) deed.actions;
         given = refl;
-        tells = inl refl;
+        tells = inl (refl, stopped);
         sent = sends_ranges laws deed.after deed.actions;
         reported = discard_makes s (Labelled p following) reason 0;
         kept = reports_keep s (wire p ++ following) reason 0 (slice_get s.configuration.addresses 0);
       }
 
-  drops_for : (cause : Note) (reason : ℕ) → TellsCause reason cause
+  drops_for : is_own s p.unit.destination ≡ true → (cause : Note) (reason : ℕ) → TellsCause reason cause
       → DropsPacket s p following (effect_of (and_then (tells s cause) (λ t. discard t (Labelled p following) reason 0)))
-  drops_for cause reason causes =
+  drops_for own cause reason causes =
       let deed = reported reason in
       record {
         reason = reason;
         told = Notes cause ∷ Notes (note.Discard reason 0) ∷ [];
         report = flat_map (outputs_of deed.after) deed.actions;
         given = refl;
-        tells = inr (cause, causes, refl);
+        tells = inr (cause, refl, causes, own);
         sent = sends_ranges laws deed.after deed.actions;
         reported = discard_makes s (Labelled p following) reason 0;
         kept = reports_keep s (wire p ++ following) reason 0 (slice_get s.configuration.addresses 0);
@@ -267,6 +272,22 @@ module _ (limits : TableLimits) (moment : ℕ) (arrival : Arrival Packet) where
 
 -- Packets.
 
+off_route : (s : SystemState) (p : Packet) → (is_complete p.options && not (is_named s (target_of p.options))) ≡ true → ¬ (IsOnRoute s p)
+off_route s p off on =
+    let named = is_named s (target_of p.options) in
+    let parts = and_parts (is_complete p.options) (not named) off in
+    both_ways named (not-true named parts.1) (ap (is_named s) (on parts.0) ∙ same-itself (title_of s))
+
+elsewhere : (s : SystemState) (p : Packet) (way : Way) → (is_complete (options_behind s p.options) && not (ends_at (aim_of s p) way.title)) ≡ true
+    → ¬ (IsAllowedWay s p way)
+elsewhere s p way off allowed =
+    let parts = and_parts (is_complete (options_behind s p.options)) (not (ends_at (aim_of s p) way.title)) off in
+    both_ways (ends_at (aim_of s p) way.title) (not-true (ends_at (aim_of s p) way.title) parts.1) (ends way.title (allowed parts.0))
+  where
+    ends : (found : Option (List ℕ)) → ((title : List ℕ) → found ≡ Some title → title ≡ aim_of s p) → ends_at (aim_of s p) found ≡ true
+    ends None h = refl
+    ends (Some title) h = same_from_equal title (aim_of s p) (h title refl)
+
 pub ends_with_hellos : (s : SystemState) (p : Packet) (following : List ℕ) (came : Neighbour) (to_group : Bool)
     → EndsWithHellos (packet_comes s came p following) (step s (FrameComes came.port came.snpa to_group (Labelled p following)))
 ends_with_hellos s p following came to_group =
@@ -284,13 +305,13 @@ module _ (laws : EditLaws) (s : SystemState) (each : AllByRecursion IsPort s.att
   abbrev Fated : Deed → Type 0
   Fated deed = HasOneFate s p following (effect_of deed)
 
-  dropped_for : (cause : Note) (reason : ℕ) → TellsCause reason cause
-      → Fated (and_then (tells s cause) (λ t. discard t (Labelled p following) reason 0))
-  dropped_for cause reason causes =
-      one_fate s p following (effect_of (and_then (tells s cause) (λ t. discard t (Labelled p following) reason 0))) IsDropped
-      (drops_for laws s p following cause reason causes)
-
   module _ (own : is_own s p.unit.destination ≡ true) where
+    dropped_for : (cause : Note) (reason : ℕ) → TellsCause reason cause
+        → Fated (and_then (tells s cause) (λ t. discard t (Labelled p following) reason 0))
+    dropped_for cause reason causes =
+        one_fate s p following (effect_of (and_then (tells s cause) (λ t. discard t (Labelled p following) reason 0))) IsDropped
+        (drops_for laws s p following own cause reason causes)
+
     abbrev arrival : Arrival Packet
     arrival = offered p following
 
@@ -339,10 +360,10 @@ module _ (laws : EditLaws) (s : SystemState) (each : AllByRecursion IsPort s.att
         (λ part. by_refusal (refusal (table_limits s) arrival s.buffers) refl (refusal_may (table_limits s) s.moment arrival s.buffers))
 
   module _ (came : Neighbour) (h : IsCarriable p) where
-    dropped : (reason : ℕ) → HasOneFate s p following (discards s p following reason)
-    dropped reason = one_fate s p following (discards s p following reason) IsDropped (drops laws s p following reason)
+    dropped : (reason : ℕ) → IsStopped s p reason → HasOneFate s p following (discards s p following reason)
+    dropped reason stopped = one_fate s p following (discards s p following reason) IsDropped (drops laws s p following reason stopped)
 
-    pub sends_all_on : s.configuration.role ≡ Router → (way : Way) (port : PortConfig) (pieces : List Packet)
+    sends_all_on : s.configuration.role ≡ Router → (way : Way) (port : PortConfig) (pieces : List Packet)
         → slice_get s.attached.ports way.neighbour.port ≡ Some port → loss_at port < p.lifetime
         → cut (forwarded p (loss_at port) (options_behind s p.options)) port.mtu ≡ Some pieces → IsItsWay s p way
         → SendsAllOn s p (gives s (going s came p (options_behind s p.options) way pieces))
@@ -364,18 +385,53 @@ module _ (laws : EditLaws) (s : SystemState) (each : AllByRecursion IsPort s.att
           unmade = refl;
         }
 
+    module _ (other : is_own s p.unit.destination ≡ false) (router : s.configuration.role ≡ Router) where
+      abbrev options : List Parameter
+      options = options_behind s p.options
+
+      stopped : (reason : ℕ) → CannotGoOn s p reason → HasOneFate s p following (discards s p following reason)
+      stopped reason cannot = dropped reason (inr (router, other, cannot))
+
+      by_pieces : (way : Way) → IsItsWay s p way → (port : PortConfig) → slice_get s.attached.ports way.neighbour.port ≡ Some port
+          → loss_at port < p.lifetime → (found : Option (List Packet)) → cut (forwarded p (loss_at port) options) port.mtu ≡ found
+          → HasOneFate s p following (pieces_go_on s came p following options way found)
+      by_pieces way its port there alive None e = stopped 0x05 (inr (inr (way, its.known, inr (inr (port, there, inr (e, refl))))))
+      by_pieces way its port there alive (Some pieces) e =
+          one_fate s p following (gives s (going s came p options way pieces)) GoesOn (sends_all_on router way port pieces there alive e its)
+
+      by_port : (way : Way) → IsItsWay s p way → (found : Option PortConfig) → slice_get s.attached.ports way.neighbour.port ≡ found
+          → HasOneFate s p following (goes_on_by s came p following options way found)
+      by_port way its None e = stopped 0x81 (inr (inr (way, its.known, inr (inl (e, refl)))))
+      by_port way its (Some port) e =
+          let pieces = cut (forwarded p (loss_at port) options) port.mtu in
+          cond_both (nat_le p.lifetime (loss_at port)) (discards s p following 0xa0) (pieces_go_on s came p following options way pieces)
+          (HasOneFate s p following)
+          (λ over. stopped 0xa0 (inr (inr (way, its.known, inr (inr (port, e, inl (leb-true p.lifetime (loss_at port) over, refl)))))))
+          (λ alive. by_pieces way its port e (leb-false p.lifetime (loss_at port) alive) pieces refl)
+
+      by_way : (is_complete p.options && not (is_named s (target_of p.options))) ≡ false → (found : Option Way) → way_of s (aim_of s p) ≡ found
+          → HasOneFate s p following (goes_on_way s came p following options found)
+      by_way on None e = stopped (no_way_to (target_of options)) (inr (inl (e, refl)))
+      by_way on (Some way) e =
+          cond_both (is_complete options && not (ends_at (aim_of s p) way.title)) (discards s p following 0x93)
+          (goes_on_by s came p following options way (slice_get s.attached.ports way.neighbour.port)) (HasOneFate s p following)
+          (λ off. stopped 0x93 (inr (inr (way, e, inl (elsewhere s p way off, refl)))))
+          (λ ends. by_port way (record { known = e; on_route = on; ends = ends }) (slice_get s.attached.ports way.neighbour.port) refl)
+
+      router_fate : HasOneFate s p following (passes_by Router s came p following)
+      router_fate =
+          cond_both (is_complete p.options && not (is_named s (target_of p.options))) (discards s p following 0x93)
+          (goes_on_with s came p following options) (HasOneFate s p following) (λ off. stopped 0x93 (inl (off_route s p off, refl)))
+          (λ on. by_way on (way_of s (aim_of s p)) refl)
+
     by_role : is_own s p.unit.destination ≡ false → (role : Role) → s.configuration.role ≡ role → HasOneFate s p following (passes_by role s came p following)
     by_role other Host is =
         one_fate s p following (passes_by Host s came p following) IsLeft (record { host = is; other = other; told = refl; same = refl; unmade = refl })
-    by_role other Router is =
-        goes_on_does (HasOneFate s p following) s came p following (λ reason of_none. dropped reason)
-        (λ way port pieces there alive cuts known.
-        one_fate s p following (gives s (going s came p (options_behind s p.options) way pieces)) GoesOn
-        (sends_all_on is way port pieces there alive cuts known))
+    by_role other Router is = router_fate other is
 
     pub packet_fate : HasOneFate s p following (packet_comes s came p following)
     packet_fate =
-        cond_both (p.lifetime == 0) _ _ (HasOneFate s p following) (λ over. dropped _)
+        cond_both (p.lifetime == 0) _ _ (HasOneFate s p following) (λ over. dropped 0xa0 (inl (is_equal p.lifetime 0 over, refl)))
         (λ alive. cond_both (is_own s p.unit.destination) (effect_of (receive s p following)) (passes_by s.configuration.role s came p following)
         (HasOneFate s p following) received (λ other. by_role other s.configuration.role refl))
 

@@ -1,23 +1,28 @@
 -- What becomes of a packet that comes, of a unit that is made and of a segment that is kept: none vanishes without a note.
-use Rattle.std.specs.Prelude.{◌≡◌, ◌≢◌, ◌⊎◌, ℕ, ◌+◌, true, false, List, [], ◌∷◌, ◌++◌, map, slice_get, None, Some}
+use Rattle.std.specs.Prelude.{All, Bool, ◌≡◌, ◌≢◌, ◌⊎◌, ℕ, ◌+◌, ◌≤◌, true, false, List, [], ◌∷◌, ◌++◌, map, slice_get, None, Some}
 use Rattle.std.specs.List.{AllByRecursion, Contains, range_with_len}
 use Rattle.pdus.specs.MadePdus.Range.{Partition, Range, Tiles}
 use Rattle.clnp_plan.specs.Pdus.declared.pdu_header.kind.Kind.{Kind}
 use Rattle.clnp_plan.specs.Pdus.declared.pdu_header.kind.Kind.TheVariants.{Dt, Er, Erq, Erp}
 use Rattle.system_tables.specs.Reassembly.Arrival.{Arrival, are_covered, data_len, earliest, same_key}
 use Rattle.system_tables.specs.Reassembly.Buffer.{Buffer, buffer_of, held, kept_in, octet_by}
+use Rattle.clnp_plan.specs.ClnpOptions.Edits.{target_of}
+use Rattle.clnp_plan.specs.Nsap.Address.{IsAddress}
+use Rattle.clnp_plan.specs.Configuration.{IsPort, IsSystem}
+use Rattle.clnp_plan.specs.declared.ask.Ask.{Ask}
 use Rattle.clnp_plan.specs.declared.config.PortConfig.{PortConfig}
 use Rattle.clnp_plan.specs.declared.config.Role.TheVariants.{Host, Router}
 use Rattle.clnp_plan.specs.declared.note.Note.{Note}
 use Rattle.clnp_plan.specs.declared.note.Note.TheVariants.{Alien, BadEsis, Crowded, Discard, Echoed, Expired, Got, Held, Interference, Many, NoSlot, NotMine, Refused, Repeat, Report, Restart, Stray}
 use Rattle.clnp_plan.specs.declared.note.Why.{Why}
-use Rattle.clnp_machine.specs.Unit.{DataUnit, Packet, cut, value_of, whole_packet, wire}
-use Rattle.clnp_machine.specs.System.{SystemState, Input, IsRestarted, MomentComes, Output, Notes, Effect}
-use Rattle.clnp_machine.specs.Local.{is_own, octet_of, offered, sent_note}
-use Rattle.clnp_machine.specs.Step.{Hop, transmissions, unit_hop}
-use Rattle.clnp_machine.specs.EveryStep.{ComesWith, GoesOnFrom, IsAtMostReportOf, OnlyHellos, SendsRangesOf, segments_in, sends_esis}
+use Rattle.clnp_machine.specs.Unit.{DataUnit, IsCarriable, Packet, cut, value_of, whole_packet, wire}
+use Rattle.clnp_machine.specs.Content.{Labelled, Unlabelled}
+use Rattle.clnp_machine.specs.System.{SystemState, Input, AsksForEcho, AsksToSend, FrameComes, IsRestarted, MomentComes, Output, Notes, Effect}
+use Rattle.clnp_machine.specs.Local.{at_moment, is_own, octet_of, offered, sent_note}
+use Rattle.clnp_machine.specs.Step.{Hop, Way, forwarded, loss_at, no_way_to, options_behind, step, transmissions, unit_hop, way_of}
+use Rattle.clnp_machine.specs.EveryStep.{ComesWith, GoesOnFrom, IsAtMostReportOf, IsFair, KeepsAsOffered, OnlyHellos, SendsRangesOf, moment_after, segments_in, sends_esis}
 use Rattle.clnp_machine.specs.Due.{HasEnded}
-use Rattle.clnp_machine.specs.Ways.{GoesItsWay, IsAllOfItsUnit}
+use Rattle.clnp_machine.specs.Ways.{GoesItsWay, IsAllOfItsUnit, IsAllowedWay, IsOnRoute, aim_of}
 
 -- Packets that are all of one.
 
@@ -116,6 +121,34 @@ pub record SendsAllOn (s : SystemState) (p : Packet) (effect : Effect) : Type 0 
   pub same : effect.after ≡ s
   pub unmade : effect.units ≡ []
 
+-- Why a packet can't go on by a port, with the octet of the reason (ISO 8473, section 7.9.5): its lifetime ends on the way there,
+-- or it is too long for the port, and may not be cut.
+abbrev pub CannotPass : SystemState → Packet → PortConfig → (reason : ℕ) → Type 0
+CannotPass s p port reason =
+    ((p.lifetime ≤ loss_at port) × (reason ≡ 0xa0))
+    ⊎ ((cut (forwarded p (loss_at port) (options_behind s p.options)) port.mtu ≡ None) × (reason ≡ 0x05))
+
+-- why it can't go on by a way: another system stands before the next one of its route, or the port isn't there, or it can't
+-- go on by the port
+abbrev pub CannotGoBy : SystemState → Packet → Way → (reason : ℕ) → Type 0
+CannotGoBy s p way reason =
+    (¬ (IsAllowedWay s p way) × (reason ≡ 0x93))
+    ⊎ ((slice_get s.attached.ports way.neighbour.port ≡ None) × (reason ≡ 0x81))
+    ⊎ ((port : PortConfig) × (slice_get s.attached.ports way.neighbour.port ≡ Some port) × CannotPass s p port reason)
+
+-- why a router can't send it on: its route doesn't lead here, or no way is known to its aim, or it can't go on by the way
+abbrev pub CannotGoOn : SystemState → Packet → (reason : ℕ) → Type 0
+CannotGoOn s p reason =
+    (¬ (IsOnRoute s p) × (reason ≡ 0x93))
+    ⊎ ((way_of s (aim_of s p) ≡ None) × (reason ≡ no_way_to (target_of (options_behind s p.options))))
+    ⊎ ((way : Way) × (way_of s (aim_of s p) ≡ Some way) × CannotGoBy s p way reason)
+
+-- why a packet is discarded that isn't for the system: its lifetime is over, or a router can't send it on
+abbrev pub IsStopped : SystemState → Packet → (reason : ℕ) → Type 0
+IsStopped s p reason =
+    ((p.lifetime ≡ 0) × (reason ≡ 0xa0))
+    ⊎ ((s.configuration.role ≡ Router) × (is_own s p.unit.destination ≡ false) × CannotGoOn s p reason)
+
 -- why there is no room for a segment
 abbrev pub TellsOfRoom : Note → Type 0
 TellsOfRoom told =
@@ -128,11 +161,14 @@ abbrev pub TellsCause : (reason : ℕ) → Note → Type 0
 TellsCause reason told =
     ((id : ℕ) × (told ≡ Interference id) × (reason ≡ 0xc0)) ⊎ (TellsOfRoom told × (reason ≡ 0x03))
 
--- a discard is noted with its reason, alone or behind its cause
-abbrev pub TellsOfDiscard : (reason : ℕ) → (told : List Output) → Type 0
-TellsOfDiscard reason told =
-    (told ≡ Notes (Discard reason 0) ∷ [])
-    ⊎ ((cause : Note) × TellsCause reason cause × (told ≡ Notes cause ∷ Notes (Discard reason 0) ∷ []))
+-- a discard is noted with its reason: of a packet that is stopped alone, and of a segment for the system behind its cause
+abbrev pub TellsOfDiscard : SystemState → Packet → (reason : ℕ) → (told : List Output) → Type 0
+TellsOfDiscard s p reason told =
+    ((told ≡ Notes (Discard reason 0) ∷ []) × IsStopped s p reason)
+    ⊎ ((cause : Note)
+    × (told ≡ Notes cause ∷ Notes (Discard reason 0) ∷ [])
+    × TellsCause reason cause
+    × (is_own s p.unit.destination ≡ true))
 
 -- A packet is discarded: that is noted with its reason, at most its report is made and given out, and what is kept stays (ISO
 -- 8473, sections 6.9 and 6.10).
@@ -141,7 +177,7 @@ pub record DropsPacket (s : SystemState) (p : Packet) (following : List ℕ) (ef
   pub told : List Output
   pub report : List Output
   pub given : effect.outputs ≡ told ++ report
-  pub tells : TellsOfDiscard reason told
+  pub tells : TellsOfDiscard s p reason told
   pub sent : AllByRecursion (SendsRangesOf effect.units) report
   pub reported : IsAtMostReportOf (wire p ++ following) effect.units
   pub kept : effect.after.buffers ≡ s.buffers
@@ -292,3 +328,23 @@ StaysOrIsTold s input effect buffer =
 abbrev pub SegmentsStayOrAreTold : SystemState → Input → Effect → Buffer Packet → Type 0
 SegmentsStayOrAreTold s input effect buffer =
     AllByRecursion (Contains (segments_in effect.after.buffers)) buffer.kept ⊎ IsToldOf s input effect buffer
+
+-- In no step does anything vanish: a packet that comes, octets that spell no PDU, a unit that is asked for or made, and what is
+-- kept.
+pub record NothingVanishes : Type 0 where
+  pub packets : (s : SystemState) (port : ℕ) (sender : List ℕ) (to_group : Bool) (p : Packet) (following : List ℕ)
+      → AllByRecursion IsPort s.attached.ports → IsCarriable p
+      → HasOneFateInFrame s p following (step s (FrameComes port sender to_group (Labelled p following)))
+  pub octets : (s : SystemState) (port : ℕ) (sender : List ℕ) (to_group : Bool) (octets : List ℕ)
+      → TellsOfOctets (step s (FrameComes port sender to_group (Unlabelled octets))).outputs
+  pub asked : (s : SystemState) (from to octets : List ℕ) (ask : Ask) → AllByRecursion IsPort s.attached.ports
+      → MakesOrRefuses s Dt from to octets (step s (AsksToSend from to octets ask))
+  pub echo : (s : SystemState) (from to octets : List ℕ) → AllByRecursion IsPort s.attached.ports
+      → MakesOrRefuses s Erq from to octets (step s (AsksForEcho from to octets))
+  pub made : (s : SystemState) (input : Input) → IsSystem s.configuration → AllByRecursion IsPort s.attached.ports
+      → IsFair input → All IsAddress s.configuration.addresses → KeepsAsOffered s
+      → AllByRecursion (GivesOutFor (at_moment (moment_after s input) s) (step s input).outputs) (step s input).units
+  pub kept : (s : SystemState) (input : Input) → AllByRecursion IsPort s.attached.ports
+      → AllByRecursion (StaysOrIsTold s input (step s input)) s.buffers
+  pub segments : (s : SystemState) (input : Input) → AllByRecursion IsPort s.attached.ports
+      → AllByRecursion (SegmentsStayOrAreTold s input (step s input)) s.buffers

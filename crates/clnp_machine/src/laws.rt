@@ -51,7 +51,7 @@ ghost use Rattle.clnp_machine.specs.Due.{FollowsTimer, IsAskedByGroup, IsHelloDu
 ghost use Rattle.clnp_machine.specs.Ports.{ComesByPort, GoesByPort};
 ghost use Rattle.clnp_machine.specs.Requests.{AnswersNone, AnswersNothing, AnswersOldest, StayUnlessAnswered, newest};
 ghost use Rattle.clnp_machine.specs.Ways.{BeginsWithDiscard, CallsForRedirect, IsAllOfItsUnit, IsAllowedWay, IsDiscardedFor, IsFirstOrGoesOn, IsOnRoute, IsOwnWhereFirst, SendsItsWay, aim_of};
-ghost use Rattle.clnp_machine.specs.Whereabouts.{GivesOutFor, HasOneFate, HasOneFateInFrame, MakesOrRefuses, SegmentsStayOrAreTold, StaysOrIsTold, TellsOfOctets};
+ghost use Rattle.clnp_machine.specs.Whereabouts.{GivesOutFor, HasOneFate, HasOneFateInFrame, MakesOrRefuses, NothingVanishes, SegmentsStayOrAreTold, StaysOrIsTold, TellsOfOctets};
 ghost use Rattle.clnp_machine.specs.EveryStep.{AreCarriable, AreNumbered, IsAtMostReportOf, IsFairChange, IsMadeFor, IsNoChange, IsNoRestart, IsRedirectFor, KeepsAsOffered, KeepsNextHops, KnowsAddresses, ReportsOn, RestartsNothing, WasPendingOrMade, BreaksNoEsisRule, BreaksNoRule, CarriesOneEsisValue, CarriesOnePacket, IsAtMostItsHello, IsAtMostOneTo, IsDeed, IsEffect, IsFair, IsForOwn, GoesOnOrIsReported, IsFresh, IsRangeOf, IsWithinBudget, NotesOnly, OnlyHellos, SendsCarriable, SendsEsisPdus, SendsItsOwn, SendsRangesOrGoesOn, StaysItself, WasKeptOrComes, attached_after, moment_after, segments_in, sends_esis, sends_frame};
 ghost use Rattle.clnp_machine.specs.Told.{IsAllowed, IsRefusal, IsToldBy, LeavesRefused, MayBeDrawn, NoteIsQuiet, NotesNoRule, SpellsPdus, TellsNoInterference, TellsOnly, WasThereOrTakes};
 
@@ -507,6 +507,15 @@ pub fn what_is_kept_stays_or_is_told()
     ensures segments { (s : SystemState) (input : Input) → AllByRecursion IsPort s.attached.ports
         → AllByRecursion (SegmentsStayOrAreTold s input (step s input)) s.buffers }
 {}
+
+/// In no step does anything vanish: one record has the laws of packets, units and what is kept.
+pub fn nothing_vanishes()
+    ensures { NothingVanishes }
+{
+    each_packet_has_one_fate();
+    each_unit_is_sent_or_dropped();
+    what_is_kept_stays_or_is_told();
+}
 
 /// A restart leaves a system as at its start, quiet for as long as an identifier rests, but for its place, its moment, the count of
 /// its units, and what it is attached to. It is noted, nothing else is given out, and no unit is made.
