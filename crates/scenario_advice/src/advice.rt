@@ -1,5 +1,7 @@
 //! A line of advice, as it is put together.
-ghost use Rattle.std.specs.Prelude.{◌≡◌, ◌≤◌, true, [], length};
+ghost use Rattle.std.specs.Prelude.{◌≡◌, ◌≤◌, true, [], ◌∷◌, length};
+ghost use Rattle.std.specs.List.{list_all};
+ghost use Rattle.hex.specs.Hex.{encode_lower};
 ghost use Rattle.scenario_advice.specs.Said.{IsSaid, IsTold, is_plain};
 
 use itoa::Buffer;
@@ -112,10 +114,11 @@ impl Advice {
             self.put_plain(octet);
             return;
         }
+        let [high, low] = digits_of(octet);
         self.put_plain(b'\\');
         self.put_plain(b'x');
-        self.put_plain(digit(octet / 16));
-        self.put_plain(digit(octet % 16));
+        self.put_plain(high);
+        self.put_plain(low);
     }
 
     /// Puts a plain character behind what is said, if it has room.
@@ -137,15 +140,15 @@ fn is_plain(octet: u8) -> bool
     0x20 <= octet && octet <= 0x7e
 }
 
-/// The hexadecimal digit of a number below 16.
-fn digit(value: u8) -> u8
-    ensures { is_plain result ≡ true }
+/// The two hexadecimal digits of an octet, in lower case.
+#[tactic(auto, using(crate::proofs::Digits::spelled_is_plain))]
+fn digits_of(octet: u8) -> [u8; 2]
+    ensures digits { result ≡ encode_lower (octet ∷ []) }
+    ensures plain { list_all is_plain result ≡ true }
 {
-    if value < 10 {
-        b'0' + value
-    } else if value < 16 {
-        b'a' + (value - 10)
-    } else {
-        b'?'
+    let mut digits = [0; 2];
+    match hex::encode_to_slice([octet], &mut digits) {
+        Ok(()) => digits,
+        Err(_) => unreachable!(),
     }
 }
