@@ -1,6 +1,7 @@
 //! A call of the program over its words, its input, its output and standard error.
 ghost use Rattle.std.specs.Prelude.{◌≡◌, ◌≤◌, ◌⊎◌, ℕ, false, IfOk, List, [], Ok, map, string_bytes};
 ghost use Rattle.clnp_machine.specs.LiveModel.Safe.{LiveRunsAreSafe};
+ghost use Rattle.clnp_machine.specs.Whereabouts.{NothingVanishes};
 ghost use Rattle.clnp_machine.specs.ScenarioPlan.Plan.{IsClosed, Plan};
 ghost use Rattle.clnp_program.specs.Advised.{Advised, is_bad_input};
 ghost use Rattle.clnp_program.specs.Agree.{TextsAgree};
@@ -67,6 +68,9 @@ pub fn run<S: Source, K: Sink, B: Ports, C: Clock, E: Sink>(
 
     // So is the run of one system, whatever its links give.
     ensures live { (plan : Plan) → LiveRunsAreSafe plan }
+
+    // In no step of a system does a packet, a unit or what is kept vanish: each is sent, handed up or kept, or a note tells of it.
+    ensures steps { NothingVanishes }
 
     // What commands make of one another's output, and what a share is worth.
     ensures agree { TextsAgree }

@@ -5,6 +5,7 @@ ghost use Rattle.scenario.specs.Grammar.{plan_of};
 ghost use Rattle.scenario.specs.ScenarioWriting.Canonical.{text_of};
 ghost use Rattle.clnp_machine.specs.ScenarioPlan.Plan.{IsClosed, Plan};
 ghost use Rattle.clnp_machine.specs.LiveModel.Safe.{LiveRunsAreSafe};
+ghost use Rattle.clnp_machine.specs.Whereabouts.{NothingVanishes};
 ghost use Rattle.scenario.specs.ScenarioWriting.Seeds as seeds;
 ghost use Rattle.clnp_safety.specs.Runs.{RunsAreSafe};
 ghost use Rattle.clnp_program.specs.Words.{command_of, reads, Reads};
@@ -35,6 +36,7 @@ use captures::capture_commands::check::check;
 use captures::capture_commands::pack::pack;
 use captures::capture_commands::show::show;
 use captures::capture_commands::{pcap_lines, pcap_make, pcap_show};
+use clnp_machine::laws::nothing_vanishes;
 use clnp_machine::live_model::laws::live_runs_are_safe;
 use std::alloc::Global;
 
@@ -91,6 +93,9 @@ pub fn clnp_main<S: Source, K: Sink, B: Ports, C: Clock>(
 
     // So is the run of one system, whatever its links give.
     ensures live { (plan : Plan) → LiveRunsAreSafe plan }
+
+    // In no step of a system does a packet, a unit or what is kept vanish: each is sent, handed up or kept, or a note tells of it.
+    ensures steps { NothingVanishes }
 
     // What commands make of one another's output, and what a share is worth.
     ensures agree { TextsAgree }
@@ -152,7 +157,9 @@ pub(crate) fn every_run_is_safe()
     ensures storms { (seed : ℕ) → (plan_of (text_of (seeds.storm seed)) ≡ Ok (seeds.storm seed)) × IsClosed (seeds.storm seed) }
     ensures safe { (text : List ℕ) → IfOk (plan_of text) RunsAreSafe }
     ensures live { (plan : Plan) → LiveRunsAreSafe plan }
+    ensures steps { NothingVanishes }
 {
+    nothing_vanishes();
     live_runs_are_safe();
     laws::accepted_is_fit();
     laws::storms_are_scenarios();
