@@ -17,10 +17,11 @@ import layout
 WHERE = layout.Layout(os.path.abspath(os.path.join(os.path.dirname(__file__), "..", "..")))
 # the calls whose contracts are what is promised, and the file that each is in
 CALLS = [("clnp_program", "src/call.rt", "run"), ("clnp_program", "src/top.rt", "clnp_main")]
-# what the headline doesn't speak of: crates, parts and files of other commands than `sim`, of what is said of refused texts, and of
-# the program's texts about itself
+# what the headline doesn't speak of: crates, parts and files of other commands than `sim`, of what becomes of packets in a step, of
+# what is said of refused texts, and of the program's texts about itself
 OF_OTHERS = [
-    "capture_commands", "fair_commands", "live_commands", "link_board", "scenario_advice",
+    "capture_commands", "fair_commands", "live_commands", "live_model", "live_node", "link_board", "scenario_advice",
+    "clnp_machine/specs/Whereabouts.antt",
     "network_commands/specs/Storm.antt", "network_commands/src/storm.rt", "clnp_program/specs/Live.antt",
     "clnp_program/specs/Advised.antt", "clnp_program/specs/Agree.antt", "command_base/specs/ByLine.antt",
     "command_base/specs/Output.antt", "clnp_program/specs/Texts.antt", "scenario_writing",
