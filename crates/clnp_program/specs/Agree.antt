@@ -2,10 +2,12 @@
 use Rattle.std.specs.Prelude.{◌≡◌, ℕ, ◌≤◌, List, length, map, IfOk}
 use Rattle.hex.specs.Hex.{IsBytes}
 use Rattle.clnp_machine.specs.ClnpBase.Text.{lines_of}
+use Rattle.captures.specs.ClnpBase.declared.command_base.status.Status.{Status}
 use Rattle.captures.specs.ClnpBase.declared.command_base.status.Status.TheVariants.{Done}
 use Rattle.scenario.specs.Grammar.{plan_of_version_1}
 use Rattle.clnp_safety.specs.Migrated.{IsMigrated}
-use Rattle.captures.specs.CaptureCommands.RoundTrip.{EndsPlainly, IsAcceptedCapture, PacksTo, ShowsAs, without_skipped}
+use Rattle.captures.specs.CaptureCommands.Pack.{PackAnswers, PacksLines}
+use Rattle.captures.specs.CaptureCommands.RoundTrip.{EndsPlainly, IsAcceptedCapture, PacksAs, PacksTo, ShowsAs, without_skipped}
 use Rattle.captures.specs.PcapFrames.File.{Captured}
 use Rattle.captures.specs.PcapFrames.Making.{frames_in, made_record}
 use Rattle.captures.specs.PcapFrames.Reading.{Ending, IsReadAs}
@@ -20,11 +22,15 @@ pub record TextsAgree : Type 0 where
   -- Of a capture in lower case without skipped lines, each line of which ends by `\n` alone, whose frames are accepted and have
   -- at most 70,000 octets each: `pack` of what `show` writes for it is the capture, and isn't longer.
   pub shown_packed : (capture : List ℕ) → IsAcceptedCapture capture
-      → (text : List ℕ) × ShowsAs capture text × PacksTo text capture × (length capture ≤ length text)
+      → (text : List ℕ) × ShowsAs capture text × PacksAs text capture × (length capture ≤ length text)
   -- Of a text each line of which ends by `\n` alone and on which `pack` is done: `show` of what `pack` wrote, which isn't longer,
   -- is that text without its skipped lines.
   pub packed_shown : (text packed : List ℕ) → EndsPlainly text → PacksTo text packed
       → ShowsAs packed (without_skipped text) × (length packed ≤ length text)
+  -- The lines of a text call for one answer of `pack`, and for one output.
+  pub one_packing : (lines : List (List ℕ)) (status other : Status) (output another : List ℕ)
+      → PackAnswers 1 lines status → PackAnswers 1 lines other → PacksLines lines output → PacksLines lines another
+      → (status ≡ other) × (output ≡ another)
   -- Of what `pcap-lines` writes of the records of a file `pcap-make` makes a file with the same OSI frames in their order, but for
   -- those whose PDU has no octets.
   pub lines_made : (octets output : List ℕ) (records : List Captured) (ending : Ending) → IsBytes octets

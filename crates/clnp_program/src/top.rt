@@ -172,6 +172,7 @@ pub(crate) fn texts_agree()
 {
     captures::capture_commands::laws::what_is_shown_is_packed_again();
     captures::capture_commands::laws::what_is_packed_is_shown_again();
+    captures::capture_commands::laws::one_packing();
     captures::capture_commands::pcap_laws::lines_make_the_frames_again();
     captures::capture_commands::pcap_laws::a_made_file_gives_its_lines_again();
     crate::fair_commands::shares_are_fair();

@@ -1,5 +1,5 @@
 -- What is shown and packed again, and what is packed and shown again.
-use Rattle.std.proofs.Common.{◌≡◌, ◌↔◌, ℕ, ◌+◌, ◌*◌, ◌≤◌, not, Bool, true, cond, List, [], ◌∷◌, ◌++◌, length, refl, sym, ap, subst, ◌∙◌, arith, length-append}
+use Rattle.std.proofs.Common.{◌≡◌, ℕ, ◌+◌, ◌*◌, ◌≤◌, not, Bool, true, cond, List, [], ◌∷◌, ◌++◌, length, refl, sym, ap, subst, ◌∙◌, arith, length-append}
 use Rattle.std.specs.List.{AllByRecursion, filter}
 use Rattle.std.proofs.lemmas.List.Elements.{recursion_from_All}
 use Rattle.hex.specs.Hex.{IsBytes, lower_digits}
@@ -11,18 +11,19 @@ use Rattle.captures.specs.Captures.{Capture, capture_of, most_octets}
 use Rattle.captures.specs.Shown.{Shows}
 use Rattle.captures.specs.CaptureText.Packing.{IsAccepted, IsAsked, Packs, PacksWithin}
 use Rattle.captures.specs.CaptureText.Outcome as outcome
-use Rattle.captures.specs.CaptureText.Outcome.{Outcome, ComesOf, outcome_of}
+use Rattle.captures.specs.CaptureText.Outcome.{Outcome, ComesOf}
 use Rattle.clnp_base.specs.declared.command_base.status.Status.TheVariants.{Done}
 use Rattle.captures.specs.CaptureCommands.Show.{show_status, ShowsLine, ShowsLines}
 use Rattle.captures.specs.CaptureCommands.Show as show
-use Rattle.captures.specs.CaptureCommands.Pack.{packed_text, pack_output, pack_status, status_at}
-use Rattle.captures.specs.CaptureCommands.RoundTrip.{with_ends, EndsPlainly, without_skipped, HasAccepted, IsAcceptedCapture, PacksTo, ShowsAs}
+use Rattle.captures.specs.CaptureCommands.Pack.{PackAnswer, PackAnswers, PacksLine, PacksLines}
+use Rattle.captures.proofs.CaptureCommands.Packs.{outputs_one}
+use Rattle.captures.specs.CaptureCommands.RoundTrip.{with_ends, EndsPlainly, without_skipped, HasAccepted, IsAcceptedCapture, PacksAs, PacksTo, ShowsAs}
 
 -- the laws on lines that these stand on
 pub record Laws : Type 0 where
   pub some : (frame : List ℕ) → IsBytes frame → (line : List ℕ) × Shows frame line
   pub one : (frame line other : List ℕ) → Shows frame line → Shows frame other → line ≡ other
-  pub outcome : (line : List ℕ) (outcome : Outcome) → (outcome_of line ≡ outcome) ↔ ComesOf outcome line
+  pub outcome : (line : List ℕ) (outcome other : Outcome) → ComesOf outcome line → ComesOf other line → outcome ≡ other
   pub asked : (line frame : List ℕ) → Packs line frame → IsAsked line
   pub line : (line frame more : List ℕ) → Packs line frame → lines_of (line ++ (10 ∷ more)) ≡ line ∷ lines_of more
   pub long : (line frame : List ℕ) → Packs line frame → 2 * length frame ≤ length line
@@ -65,22 +66,14 @@ show_passes : (digits octets : List ℕ) (others : List (List ℕ)) (number : �
     → show_status number (digits ∷ others) ≡ show_status (number + 1) others
 show_passes digits octets others number is = ap (λ (found : Capture). show.status_at number found (show_status (number + 1) others)) is
 
-pack_passes : (line octets : List ℕ) (others : List (List ℕ)) (number : ℕ) → outcome_of line ≡ outcome.Frame octets
-    → pack_status number (line ∷ others) ≡ pack_status (number + 1) others
-pack_passes line octets others number is = ap (λ (found : Outcome). status_at number found (pack_status (number + 1) others)) is
-
-pack_puts : (line octets : List ℕ) (others : List (List ℕ)) → outcome_of line ≡ outcome.Frame octets
-    → pack_output (line ∷ others) ≡ hex_text octets ++ (10 ∷ pack_output others)
-pack_puts line octets others is = ap (λ (found : Outcome). packed_text found (pack_output others)) is
-
 -- ---- a capture that is shown, and packed again
 
 pub record ShownAgain (lines : List (List ℕ)) : Type 0 where
   pub text : List ℕ
   pub shows : ShowsLines lines text
   pub shown : (number : ℕ) → show_status number lines ≡ Done
-  pub packed : (number : ℕ) → pack_status number (lines_of text) ≡ Done
-  pub output : pack_output (lines_of text) ≡ with_ends lines
+  pub packed : (number : ℕ) → PackAnswers number (lines_of text) Done
+  pub output : PacksLines (lines_of text) (with_ends lines)
   pub longer : length (with_ends lines) ≤ length text
 
 shown_one : Laws → (line : List ℕ) (others : List (List ℕ)) → HasAccepted line → ShownAgain others → ShownAgain (line ∷ others)
@@ -91,19 +84,23 @@ shown_one laws line others is rest =
     let packs : Packs shown frame = record { octets = is.octets; accepted = is.accepted; shown = some.1 } in
     let within : PacksWithin shown frame = record { packs = packs; few = is.few } in
     let read : capture_of line ≡ capture.Frame frame = ap capture_of is.digits ∙ laws.read frame is.octets is.accepted is.few in
-    let found : outcome_of shown ≡ outcome.Frame frame = (laws.outcome shown (outcome.Frame frame)).1 within in
     let cut : lines_of (shown ++ (10 ∷ rest.text)) ≡ shown ∷ lines_of rest.text = laws.line shown frame rest.text packs in
     record {
       text = shown ++ (10 ∷ rest.text);
       shows = shows_frame line frame shown rest.text others read some.1 rest.shows;
       shown = λ number. show_passes line frame others number read ∙ rest.shown (number + 1);
       packed = λ number.
-          ap (λ (lines : List (List ℕ)). pack_status number lines) cut
-          ∙ pack_passes shown frame (lines_of rest.text) number found ∙ rest.packed (number + 1);
+          subst (λ (lines : List (List ℕ)). PackAnswers number lines Done) (sym cut) (outcome.Frame frame, within, rest.packed (number + 1));
       output =
-          ap pack_output cut ∙ pack_puts shown frame (lines_of rest.text) found
-          ∙ ap (λ (t : List ℕ). hex_text frame ++ (10 ∷ t)) rest.output
-          ∙ ap (λ (t : List ℕ). t ++ (10 ∷ with_ends others)) (sym is.digits);
+          subst (λ (lines : List (List ℕ)). PacksLines lines (with_ends (line ∷ others))) (sym cut) (
+            outcome.Frame frame,
+            within,
+            record {
+              rest = with_ends others;
+              goes_on = rest.output;
+              text = ap (λ (t : List ℕ). t ++ (10 ∷ with_ends others)) is.digits;
+            },
+          );
       longer =
           omega (
             arith,
@@ -120,13 +117,19 @@ shown_again : Laws → (lines : List (List ℕ)) → AllByRecursion HasAccepted 
 shown_again laws [] h = record { text = []; shows = refl; shown = λ number. refl; packed = λ number. refl; output = refl; longer = omega arith }
 shown_again laws (line ∷ others) h = shown_one laws line others h.0 (shown_again laws others h.1)
 
+packs_as : Laws → (text packed : List ℕ) → PackAnswers 1 (lines_of text) Done → PacksLines (lines_of text) packed → PacksAs text packed
+packs_as laws text packed done output = record {
+  packs = record { done = done; output = output };
+  only = λ other h. outputs_one laws.outcome (lines_of text) other packed h output;
+}
+
 pub pack_of_shown : Laws → (frames : List ℕ) → IsAcceptedCapture frames
-    → (text : List ℕ) × ShowsAs frames text × PacksTo text frames × (length frames ≤ length text)
+    → (text : List ℕ) × ShowsAs frames text × PacksAs text frames × (length frames ≤ length text)
 pack_of_shown laws frames is =
     let again = shown_again laws (lines_of frames) (recursion_from_All HasAccepted (lines_of frames) is.lines) in (
       again.text,
       record { done = again.shown 1; output = again.shows; only = λ other h. one_output laws (lines_of frames) other again.text h again.shows },
-      record { done = again.packed 1; output = is.ends ∙ sym again.output },
+      packs_as laws again.text frames (again.packed 1) (subst (PacksLines (lines_of again.text)) (sym is.ends) again.output),
       omega (arith, ap length is.ends, again.longer),
     )
 
@@ -135,70 +138,71 @@ pack_of_shown laws frames is =
 abbrev unskipped : List (List ℕ) → List (List ℕ)
 unskipped lines = filter (λ line. not (is_skipped line)) lines
 
-pub record PackedAgain (lines : List (List ℕ)) : Type 0 where
-  pub shown : (number : ℕ) → show_status number (lines_of (pack_output lines)) ≡ Done
-  pub shows : ShowsLines (lines_of (pack_output lines)) (with_ends (unskipped lines))
-  pub shorter : length (pack_output lines) ≤ length (with_ends lines)
+pub record PackedAgain (lines : List (List ℕ)) (packed : List ℕ) : Type 0 where
+  pub shown : (number : ℕ) → show_status number (lines_of packed) ≡ Done
+  pub shows : ShowsLines (lines_of packed) (with_ends (unskipped lines))
+  pub shorter : length packed ≤ length (with_ends lines)
 
 -- behind a skipped line
-packed_skipped : (line : List ℕ) (others : List (List ℕ)) → outcome_of line ≡ outcome.Skipped → is_skipped line ≡ true → PackedAgain others
-    → PackedAgain (line ∷ others)
-packed_skipped line others is skipped rest =
-    let out : pack_output (line ∷ others) ≡ pack_output others = ap (λ (found : Outcome). packed_text found (pack_output others)) is in
+packed_skipped : (line : List ℕ) (others : List (List ℕ)) (packed : List ℕ) → is_skipped line ≡ true → PackedAgain others packed
+    → PackedAgain (line ∷ others) packed
+packed_skipped line others packed skipped rest =
     let left : unskipped (line ∷ others) ≡ unskipped others = ap (λ (b : Bool). cond (not b) (line ∷ unskipped others) (unskipped others)) skipped in
-    let P : List ℕ → Type 0 = λ t. ShowsLines (lines_of t) (with_ends (unskipped (line ∷ others))) in
-    let Q : List (List ℕ) → Type 0 = λ ls. ShowsLines (lines_of (pack_output others)) (with_ends ls) in
     record {
-      shown = λ number. ap (λ (t : List ℕ). show_status number (lines_of t)) out ∙ rest.shown number;
-      shows = subst P (sym out) (subst Q (sym left) rest.shows);
-      shorter = omega (arith, ap length out, line_long line (with_ends others), rest.shorter);
+      shown = rest.shown;
+      shows = subst (λ (ls : List (List ℕ)). ShowsLines (lines_of packed) (with_ends ls)) (sym left) rest.shows;
+      shorter = omega (arith, line_long line (with_ends others), rest.shorter);
     }
 
-packed_one : Laws → (line octets : List ℕ) (others : List (List ℕ)) → outcome_of line ≡ outcome.Frame octets → PacksWithin line octets → PackedAgain others
-    → PackedAgain (line ∷ others)
-packed_one laws line octets others is within rest =
+packed_one : Laws → (line octets : List ℕ) (others : List (List ℕ)) (packed behind : List ℕ) → PacksWithin line octets
+    → packed ≡ hex_text octets ++ (10 ∷ behind) → PackedAgain others behind → PackedAgain (line ∷ others) packed
+packed_one laws line octets others packed behind within out rest =
     let packs : Packs line octets = within.packs in
     let asked : IsAsked line = laws.asked line octets packs in
-    let out : pack_output (line ∷ others) ≡ hex_text octets ++ (10 ∷ pack_output others) = pack_puts line octets others is in
     let left : unskipped (line ∷ others) ≡ line ∷ unskipped others = ap (λ (b : Bool). cond (not b) (line ∷ unskipped others) (unskipped others)) asked.unskipped in
     let read : capture_of (hex_text octets) ≡ capture.Frame octets = laws.read octets packs.octets packs.accepted within.few in
-    let cut : lines_of (pack_output (line ∷ others)) ≡ hex_text octets ∷ lines_of (pack_output others) = ap lines_of out ∙ laws.digits octets (pack_output others) in
+    let cut : lines_of packed ≡ hex_text octets ∷ lines_of behind = ap lines_of out ∙ laws.digits octets behind in
     let P : List (List ℕ) → Type 0 = λ ls. ShowsLines ls (with_ends (unskipped (line ∷ others))) in
-    let Q : List (List ℕ) → Type 0 = λ ls. ShowsLines (hex_text octets ∷ lines_of (pack_output others)) (with_ends ls) in
+    let Q : List (List ℕ) → Type 0 = λ ls. ShowsLines (hex_text octets ∷ lines_of behind) (with_ends ls) in
     record {
       shown = λ number.
           ap (λ (ls : List (List ℕ)). show_status number ls) cut
-          ∙ show_passes (hex_text octets) octets (lines_of (pack_output others)) number read ∙ rest.shown (number + 1);
+          ∙ show_passes (hex_text octets) octets (lines_of behind) number read ∙ rest.shown (number + 1);
       shows =
           subst P (sym cut) (subst Q (sym left)
-          (shows_frame (hex_text octets) octets line (with_ends (unskipped others)) (lines_of (pack_output others)) read packs.shown rest.shows));
+          (shows_frame (hex_text octets) octets line (with_ends (unskipped others)) (lines_of behind) read packs.shown rest.shows));
       shorter =
-          omega (arith, ap length out, digits_long octets (pack_output others), line_long line (with_ends others), laws.long line octets packs, rest.shorter);
+          omega (arith, ap length out, digits_long octets behind, line_long line (with_ends others), laws.long line octets packs, rest.shorter);
     }
 
-packed_by : Laws → (found : Outcome) (line : List ℕ) (others : List (List ℕ)) (number : ℕ) → outcome_of line ≡ found → ComesOf found line
-    → status_at number found (pack_status (number + 1) others) ≡ Done → ((n : ℕ) → pack_status n others ≡ Done → PackedAgain others)
-    → PackedAgain (line ∷ others)
-packed_by laws outcome.Skipped line others number is comes done rest = packed_skipped line others is comes (rest (number + 1) done)
-packed_by laws outcome.NotPackable line others number is comes done rest = cc done
-packed_by laws outcome.NotShown line others number is comes done rest = cc done
-packed_by laws outcome.TooLong line others number is comes done rest = cc done
-packed_by laws (outcome.Frame octets) line others number is comes done rest = packed_one laws line octets others is comes (rest (number + 1) done)
+packed_by : Laws → (found : Outcome) (line : List ℕ) (others : List (List ℕ)) (number : ℕ) (packed : List ℕ) → ComesOf found line
+    → PackAnswer number found (λ answered. PackAnswers (number + 1) others answered) Done → PacksLine found (PacksLines others) packed
+    → ((behind : List ℕ) → PackAnswers (number + 1) others Done → PacksLines others behind → PackedAgain others behind)
+    → PackedAgain (line ∷ others) packed
+packed_by laws outcome.Skipped line others number packed comes done output rest = packed_skipped line others packed comes (rest packed done output)
+packed_by laws outcome.NotPackable line others number packed comes done output rest = cc done
+packed_by laws outcome.NotShown line others number packed comes done output rest = cc done
+packed_by laws outcome.TooLong line others number packed comes done output rest = cc done
+packed_by laws (outcome.Frame octets) line others number packed comes done output rest =
+    packed_one laws line octets others packed output.rest comes output.text (rest output.rest done output.goes_on)
 
-packed_again : Laws → (lines : List (List ℕ)) (number : ℕ) → pack_status number lines ≡ Done → PackedAgain lines
-packed_again laws [] number done = record { shown = λ n. refl; shows = refl; shorter = omega arith }
-packed_again laws (line ∷ others) number done =
-    packed_by laws (outcome_of line) line others number refl ((laws.outcome line (outcome_of line)).0 refl) done (packed_again laws others)
+packed_again : Laws → (lines : List (List ℕ)) (number : ℕ) (packed : List ℕ) → PackAnswers number lines Done → PacksLines lines packed
+    → PackedAgain lines packed
+packed_again laws [] number packed done output =
+    subst (PackedAgain []) (sym output) (record { shown = λ n. refl; shows = refl; shorter = omega arith })
+packed_again laws (line ∷ others) number packed done output =
+    packed_by laws done.0 line others number packed done.1 done.2
+    (subst (λ (o : Outcome). PacksLine o (PacksLines others) packed) (laws.outcome line output.0 done.0 output.1 done.1) output.2)
+    (λ behind d o. packed_again laws others (number + 1) behind d o)
 
 pub shown_of_packed : Laws → (text packed : List ℕ) → EndsPlainly text → PacksTo text packed
     → ShowsAs packed (without_skipped text) × (length packed ≤ length text)
 shown_of_packed laws text packed ends is =
-    let again = packed_again laws (lines_of text) 1 is.done in
-    let P : List ℕ → Type 0 = λ t. ShowsAs t (without_skipped text) in (
-      subst P (sym is.output) (record {
+    let again = packed_again laws (lines_of text) 1 packed is.done is.output in (
+      record {
         done = again.shown 1;
         output = again.shows;
-        only = λ other h. one_output laws (lines_of (pack_output (lines_of text))) other (without_skipped text) h again.shows;
-      }),
-      omega (arith, ap length is.output, ap length ends, again.shorter),
+        only = λ other h. one_output laws (lines_of packed) other (without_skipped text) h again.shows;
+      },
+      omega (arith, ap length ends, again.shorter),
     )

@@ -1,5 +1,5 @@
 -- What the lines of a file of vectors call for.
-use Rattle.std.specs.Prelude.{◌≡◌, ℕ, ◌+◌, List, [], ◌∷◌, ◌++◌, codes, Option}
+use Rattle.std.specs.Prelude.{◌≡◌, ℕ, ◌+◌, List, [], ◌∷◌, ◌++◌, codes}
 use Rattle.std.specs.Fmt.{decimal}
 use Rattle.captures.specs.declared.vector.Verdict.{Verdict}
 use Rattle.captures.specs.declared.vector.Verdict.TheVariants.{Skip, Pass, Fail}
@@ -9,7 +9,6 @@ use Rattle.clnp_base.specs.declared.command_base.status.Status.{Status}
 use Rattle.clnp_base.specs.declared.command_base.status.Status.TheVariants as status
 use Rattle.clnp_base.specs.CommandBase.ByLine.{Work}
 use Rattle.clnp_base.specs.CommandBase.Codes.{count_code, syntax_code}
-use Rattle.clnp_base.specs.CommandBase.Output.{AppendsCalled, AppendsCalledFront, AppendsCalledPart}
 
 -- what a line with this number calls for, before lines that call for `later`
 abbrev pub status_at : ℕ → Vector → Status → Status
@@ -60,27 +59,6 @@ abbrev pub ChecksFrom : (Tally → List ℕ) → List (List ℕ) → ℕ → Tal
 ChecksFrom ending [] number tally output = output ≡ ending tally
 ChecksFrom ending (line ∷ others) number tally output =
     ChecksLine number (vector_of line) (λ verdict rest. ChecksFrom ending others (number + 1) (counting verdict tally) rest) output
-
--- the output that all lines call for
-abbrev pub ChecksLines : List (List ℕ) → List ℕ → Type 0
-ChecksLines lines output = ChecksFrom tally_text lines 1 no_vectors output
-
--- the verdicts that the first lines call for, without the counts
-abbrev pub ChecksFirst : List (List ℕ) → List ℕ → Type 0
-ChecksFirst lines output = ChecksFrom (λ tally. []) lines 1 no_vectors output
-
--- the output that the lines call for was written
-abbrev pub AppendsChecked : List (List ℕ) → Option (List ℕ) → Option (List ℕ) → Type 0
-AppendsChecked lines before after = AppendsCalled (ChecksLines lines) before after
-
--- a front of the whole output that all the lines call for was written
-abbrev pub AppendsCheckedFront : List (List ℕ) → Option (List ℕ) → Option (List ℕ) → Type 0
-AppendsCheckedFront lines before after = AppendsCalledFront (ChecksLines lines) before after
-
--- The verdicts that some of the lines call for, from the first on, were written; the whole output that all of them
--- call for begins with them.
-abbrev pub AppendsSomeChecked : List (List ℕ) → Option (List ℕ) → Option (List ℕ) → Type 0
-AppendsSomeChecked lines before after = AppendsCalledPart (ChecksLines lines) ChecksFirst lines before after
 
 -- the number of the next line, and the counts of the vectors before it
 pub record Checked : Type 0 where

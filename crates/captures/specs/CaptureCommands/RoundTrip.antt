@@ -7,7 +7,7 @@ use Rattle.captures.specs.Captures.{most_octets}
 use Rattle.captures.specs.CaptureText.Packing.{IsAccepted}
 use Rattle.clnp_base.specs.declared.command_base.status.Status.TheVariants.{Done}
 use Rattle.captures.specs.CaptureCommands.Show.{show_status, ShowsLines}
-use Rattle.captures.specs.CaptureCommands.Pack.{pack_status, PacksLines}
+use Rattle.captures.specs.CaptureCommands.Pack.{PackAnswers, PacksLines}
 
 -- lines, each with its end (10)
 abbrev pub with_ends : List (List ℕ) → List ℕ
@@ -38,8 +38,13 @@ pub record IsAcceptedCapture (text : List ℕ) : Type 0 where
 
 -- packing the text is done, and comes to this capture
 pub record PacksTo (text packed : List ℕ) : Type 0 where
-  pub done : pack_status 1 (lines_of text) ≡ Done
+  pub done : PackAnswers 1 (lines_of text) Done
   pub output : PacksLines (lines_of text) packed
+
+-- packing the text is done, and comes to this capture and no other
+pub record PacksAs (text packed : List ℕ) : Type 0 where
+  pub packs : PacksTo text packed
+  pub only : (other : List ℕ) → PacksLines (lines_of text) other → other ≡ packed
 
 -- showing the capture is done, and comes to this text and no other
 pub record ShowsAs (capture text : List ℕ) : Type 0 where

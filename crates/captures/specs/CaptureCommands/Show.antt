@@ -1,12 +1,11 @@
 -- What the lines of a capture call for.
-use Rattle.std.specs.Prelude.{◌≡◌, ℕ, ◌+◌, List, [], ◌∷◌, ◌++◌, Option}
+use Rattle.std.specs.Prelude.{◌≡◌, ℕ, ◌+◌, List, [], ◌∷◌, ◌++◌}
 use Rattle.captures.specs.Captures.{Capture, Skipped, Malformed, TooLong, Frame, capture_of}
 use Rattle.captures.specs.Shown.{Shows}
 use Rattle.clnp_base.specs.declared.command_base.status.Status.{Status}
 use Rattle.clnp_base.specs.declared.command_base.status.Status.TheVariants as status
 use Rattle.clnp_base.specs.CommandBase.ByLine.{Work}
 use Rattle.clnp_base.specs.CommandBase.Codes.{count_code, syntax_code}
-use Rattle.clnp_base.specs.CommandBase.Output.{AppendsCalled, AppendsCalledFront, AppendsCalledPart}
 
 -- what a line with this number calls for, before lines that call for `later`
 abbrev pub status_at : ℕ → Capture → Status → Status
@@ -40,19 +39,6 @@ ShowsLine (Frame octets) later output = ShowsFrame octets later output
 abbrev pub ShowsLines : List (List ℕ) → List ℕ → Type 0
 ShowsLines [] output = output ≡ []
 ShowsLines (line ∷ others) output = ShowsLine (capture_of line) (ShowsLines others) output
-
--- the output that the lines call for was written
-abbrev pub AppendsShown : List (List ℕ) → Option (List ℕ) → Option (List ℕ) → Type 0
-AppendsShown lines before after = AppendsCalled (ShowsLines lines) before after
-
--- a front of the whole output that all the lines call for was written
-abbrev pub AppendsShownFront : List (List ℕ) → Option (List ℕ) → Option (List ℕ) → Type 0
-AppendsShownFront lines before after = AppendsCalledFront (ShowsLines lines) before after
-
--- The output that some of the lines call for, from the first on, was written; the whole output that all of them call
--- for begins with it.
-abbrev pub AppendsSomeShown : List (List ℕ) → Option (List ℕ) → Option (List ℕ) → Type 0
-AppendsSomeShown lines before after = AppendsCalledPart (ShowsLines lines) ShowsLines lines before after
 
 -- `show` goes over lines: the point is the number of the next one.
 abbrev pub showing : Work

@@ -22,6 +22,8 @@ pub fn pack<K: Sink>(alloc: Global, text: &[u8], sink: &mut K) -> Status
         (K.written sink.old) (K.written sink.new) result }
     ensures failed { result ≡ Status.WriteFault → Rose (K.faults sink.old) (K.faults sink.new) }
 {
+    // Its clause: something comes of each line behind a stop, too.
+    laws::the_outcome_of_a_line();
     let values = DigitValues::new();
     let mut block = Vec::new(alloc);
     let mut number = 0u32;
@@ -69,8 +71,6 @@ fn push_line(
     ensures { (number : ℕ) → PushOf packing number
         (λ done. number + 1) number line.now block.old.items block.new.items result }
 {
-    // Its clause: one thing comes of a line.
-    laws::the_outcome_of_a_line();
     match pack_line(alloc, values, line, block) {
         Ok(false) => Ok(()),
         Ok(true) => push_end(block),

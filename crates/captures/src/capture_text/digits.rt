@@ -1,12 +1,14 @@
 //! The digits of a shown line, read as octets of a frame. What no octets can hold is shown of no frame.
 ghost use Rattle.std.specs.Prelude.{◌≡◌, Some, MatchOption, MatchResult, None};
 ghost use Rattle.hex.specs.Hex.{decode_sized};
+ghost use Rattle.pdus.specs.PduHeader.Spelling.{pair_of};
 ghost use Rattle.captures.specs.CaptureText.Said.{number_in, octets_in, with_counted, with_number, with_octets, with_option};
 ghost use Rattle.captures.specs.CaptureText.View.{Misses};
 
 use crate::base::{DigitValues, HexFault, decimal, push};
 use crate::capture_text::refusal::PackRefusal;
 use crate::push_spelled;
+use byteorder::{BigEndian, ByteOrder};
 
 /// The most octets that one octet counts.
 const MOST_COUNTED: usize = 255;
@@ -81,8 +83,17 @@ pub(crate) fn push_number_in(digits: &[u8], out: &mut Vec<u8>) -> Result<(), Pac
     let Some(number) = number_in(digits) else {
         return Err(PackRefusal::NotShown);
     };
-    push(&number.to_be_bytes(), out)?;
+    push(&pair_of(number), out)?;
     Ok(())
+}
+
+/// The two octets of a number, the high one first.
+pub(crate) fn pair_of(number: u16) -> [u8; 2]
+    ensures { result ≡ pair_of number }
+{
+    let mut pair = [0; 2];
+    BigEndian::write_u16(&mut pair, number);
+    pair
 }
 
 /// The two octets that four hexadecimal digits spell.

@@ -5,6 +5,7 @@ ghost use Rattle.captures.specs.CaptureText.Laid.{clnp_frame, clnp_words, esis_f
 ghost use Rattle.captures.specs.CaptureText.View.{Misses, said_by};
 
 use crate::base::{DigitValues, next_word, push, same};
+use crate::capture_text::digits::pair_of;
 use crate::capture_text::pieces::{Pieces, pieces_of};
 use crate::capture_text::refusal::PackRefusal;
 use crate::capture_text::words::{octet_5, type_of};
@@ -136,7 +137,7 @@ fn laid(
     let room = pieces.part.len().saturating_add(pieces.behind.len());
     let mut frame = Vec::with_capacity(alloc, room.saturating_add(FIXED_PART + 1))?;
     push(start, &mut frame)?;
-    push(&number.to_be_bytes(), &mut frame)?;
+    push(&pair_of(number), &mut frame)?;
     push(&pieces.sum, &mut frame)?;
     push(counts, &mut frame)?;
     push(&pieces.part, &mut frame)?;

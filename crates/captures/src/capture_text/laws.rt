@@ -1,13 +1,13 @@
 //! Laws of the definitions. Each law is the clause of a function that does nothing.
 
-ghost use Rattle.std.specs.Prelude.{◌≡◌, ◌↔◌, ◌≤◌, ◌*◌, ◌∷◌, ◌++◌, ℕ, List, length};
+ghost use Rattle.std.specs.Prelude.{◌≡◌, ◌≤◌, ◌*◌, ◌∷◌, ◌++◌, ℕ, List, length};
 ghost use Rattle.hex.specs.Hex.{IsBytes};
 ghost use Rattle.pdus.specs.ClnpBase.Text.{lines_of};
 ghost use Rattle.pdus.specs.Nsap.Text.{hex_text};
 ghost use Rattle.captures.specs.Captures.{capture_of, most_octets};
 ghost use Rattle.captures.specs.Captures as capture;
 ghost use Rattle.captures.specs.CaptureText.Packing.{IsAccepted, IsAsked, Packs};
-ghost use Rattle.captures.specs.CaptureText.Outcome.{ComesOf, Outcome, outcome_of};
+ghost use Rattle.captures.specs.CaptureText.Outcome.{ComesOf, Outcome};
 
 use crate::laws as shown;
 
@@ -21,12 +21,14 @@ pub fn packed_lines_are_asked()
     ensures { (line frame : List ℕ) → Packs line frame → IsAsked line }
 {}
 
-/// One thing comes of packing a line, and it is computed: the line is skipped, or that of a refused frame, or shows no
+/// One thing comes of packing a line, and one alone: the line is skipped, or that of a refused frame, or shows no
 /// accepted frame, or packs to a frame of too many octets, or to one that a line of a capture may have.
 pub fn the_outcome_of_a_line()
-    ensures { (line : List ℕ) (outcome : Outcome) → (outcome_of line ≡ outcome) ↔ ComesOf outcome line }
+    ensures some { (line : List ℕ) → (outcome : Outcome) × ComesOf outcome line }
+    ensures one { (line : List ℕ) (outcome other : Outcome) → ComesOf outcome line → ComesOf other line
+        → outcome ≡ other }
 {
-    // Its clause: a frame has one line.
+    // Its clauses: a frame has a line, and one alone.
     shown::one_line();
 }
 

@@ -22,7 +22,7 @@ returns-in-Err-clause-comes_to g c =
     rw c.in-Some.ensures.line at c.loop-line.invariant.0 in
     rw c.status.ensures
     (stopped packing 1 (lines_of c.args.text.now) (c.loop-line.number + 1) (g.K.Sink.written c.args.sink.now)
-    (g.K.Sink.written c.pack_next.new.sink) c.in-Err.stop pack_total (λ now. refl)
+    (g.K.Sink.written c.pack_next.new.sink) c.in-Err.stop (pack_total c.the_outcome_of_a_line.ensures.some) (λ now. refl)
     (c.in-Err.ensures.comes_to (lines_of c.args.text.now) (lines_of c.in-Some.others.now) (c.loop-line.number + 1) (g.K.Sink.written c.args.sink.now) here))
 
 pub returns-in-Ok-write_block-clause-comes_to : goal.returns-in-Ok-write_block-clause-comes_to
