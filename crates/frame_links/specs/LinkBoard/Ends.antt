@@ -1,8 +1,14 @@
 -- Ends of links over UDP, and their SNPAs.
-use Rattle.std.specs.Prelude.{ℕ, ◌==◌, if◌then◌else◌, List, ◌++◌, drop, length, take, Option, None, Some}
+use Rattle.std.specs.Prelude.{◌≡◌, ℕ, ◌^◌, ◌<◌, ◌==◌, if◌then◌else◌, List, ◌++◌, drop, length, take, Option, None, Some}
 use Rattle.byteorder.specs.Endian.{big_bytes, big_number}
 use Rattle.frame_links.specs.declared.link_board.end.End.{End}
 use Rattle.frame_links.specs.declared.link_board.ends.Peer.{Peer}
+
+-- four octets of an address, and a port of two octets that isn't 0
+pub record IsEnd (end : End) : Type 0 where
+  pub four : length end.address ≡ 4
+  pub some : 0 < end.port
+  pub within : end.port < 2 ^ 16
 
 -- the SNPA of an end: the octets of its address, and its port in two, the high one first
 abbrev pub snpa_of : End → List ℕ
