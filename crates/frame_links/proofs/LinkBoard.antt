@@ -5,3 +5,4 @@ pub mod Parts
 pub mod Peers
 pub mod Lines
 pub mod Playing
+pub mod EndSnpas

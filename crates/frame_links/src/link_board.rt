@@ -6,6 +6,7 @@ mod board;
 mod capture_line;
 mod end;
 mod ends;
+pub mod laws;
 mod link;
 mod link_word;
 mod memory;

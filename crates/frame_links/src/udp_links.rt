@@ -1,9 +1,11 @@
 //! Links over UDP.
 
+mod receivers;
 mod socket;
 mod traffic;
 mod udp;
 
+pub use socket::Datagrams;
 pub use traffic::Traffic;
 pub use udp::{LinkFault, UdpLink};
 

@@ -2,6 +2,7 @@
 ghost use Rattle.std.specs.Prelude.{◌≡◌};
 ghost use Rattle.frame_links.specs.LinkBoard.Ends.{end_at, snpa_of};
 
+use byteorder::{BigEndian, ByteOrder};
 use pdus::nsap::Snpa;
 use pdus::nsap::base::InlineOctets;
 
@@ -26,8 +27,7 @@ impl End {
             return None;
         }
         let (address, port) = octets.split_first_chunk::<4>()?;
-        let (port, _) = port.split_first_chunk::<2>()?;
-        let port = u16::from_be_bytes(*port);
+        let port = BigEndian::read_u16(port);
         if port == 0 {
             return None;
         }
@@ -41,8 +41,10 @@ impl End {
     pub fn snpa(&self) -> Snpa
         ensures { result ≡ snpa_of self.now }
     {
+        let mut port = [0; 2];
+        BigEndian::write_u16(&mut port, self.port);
         let mut octets = InlineOctets::<6>::of(&self.address);
-        octets.push(&self.port.to_be_bytes());
+        octets.push(&port);
         match Snpa::from_bytes(octets.as_bytes()) {
             Ok(snpa) => snpa,
             Err(_) => unreachable!(),

@@ -1,12 +1,14 @@
 //! A link over UDP.
-ghost use Rattle.std.specs.Prelude.{◌≡◌, ◌+◌, ◌≤◌, ◌++◌, length, nat_le, true, vec_capacity, None, IfOk};
+ghost use Rattle.std.specs.Prelude.{◌≡◌, ◌+◌, ◌≤◌, ◌++◌, length, nat_le, true, vec_capacity, is_ok, Some, IfOk, IfSome};
 ghost use Rattle.frame_links.specs.LinkBoard.Links.{PollOf, SendOf};
-ghost use Rattle.frame_links.specs.LinkBoard.Words.{is_link_word};
+ghost use Rattle.frame_links.specs.LinkBoard.Words.{is_link_word, link_ends};
+ghost use Rattle.frame_links.specs.UdpLinks.Sockets.{GivesEach, GivesOne, LooksOnce, LooksTo, Sends, state_of, told_in};
 
 use crate::link_board::base::{Failed, NoMemory};
 use crate::link_board::nsaps::Target;
-use crate::link_board::{End, Got, Link, LinkEnds, Role};
-use crate::udp_links::socket::{Gift, Look, MOST, address_of, give, look_at};
+use crate::link_board::{End, Got, Link, LinkEnds};
+use crate::udp_links::receivers::receivers;
+use crate::udp_links::socket::{Datagrams, address_of, is_again, told_of};
 use crate::udp_links::traffic::Traffic;
 use std::net::{Net, UdpSocket};
 use std::rt::Clock;
@@ -30,9 +32,9 @@ pub enum LinkFault {
 /// little at first, so that a link where nothing comes holds up no other; where nothing has come for a while, it takes seven
 /// sleeps of a millisecond.
 #[derive(Drop)]
-pub struct UdpLink<R: Clock + Drop> {
+pub struct UdpLink<R: Clock + Drop, S: Datagrams + Drop = UdpSocket> {
     clock: R,
-    socket: UdpSocket,
+    socket: S,
     ends: LinkEnds,
     datagram: Vec<u8>,
     traffic: Traffic,
@@ -60,7 +62,10 @@ fn wait_behind(rounds: u64) -> Wait {
     Wait { sleeps, micros }
 }
 
-/// How many milliseconds a frame waits for room, before the socket counts as failed.
+/// The most octets of a frame.
+const MOST: usize = 70_000;
+
+/// How often a datagram is given, a millisecond apart, before the socket counts as failed.
 const TRIES: u16 = 1000;
 
 impl<R: Net + AllocGlobal + Clock + Drop> UdpLink<R> {
@@ -71,7 +76,8 @@ impl<R: Net + AllocGlobal + Clock + Drop> UdpLink<R> {
     /// `Refused` only where the local end couldn't be bound, or waits where it mustn't; else `NoMemory`.
     pub fn open(machine: R, word: &[u8], traffic: Traffic) -> Result<UdpLink<R>, LinkFault>
         requires { is_link_word word.now ≡ true }
-        ensures { IfOk result (λ link. ⟦<UdpLink<R> as Link>⟧.seen link ≡ record { looks = None; sent = None; faults = 0; empties = 0 }) }
+        ensures new { IfOk result (λ link. ⟦<UdpLink<R> as Link>⟧.seen link ≡ state_of 0 0) }
+        ensures ends { IfOk result (λ link. link_ends word.now ≡ Some link.ends) }
     {
         let Some(ends) = LinkEnds::of_word(word) else {
             unreachable!()
@@ -98,60 +104,68 @@ impl<R: Net + AllocGlobal + Clock + Drop> UdpLink<R> {
     }
 }
 
-impl<R: Clock + Drop> UdpLink<R> {
-    /// Looks at the socket, and for a datagram that hasn't come yet as many times more as it waits.
-    fn look(&self, wait: Wait, buf: &mut [u8]) -> Look
-        requires { 70000 ≤ length buf.old }
-        ensures { (got : Got) → result ≡ Look.Frame got → got.len ≤ 70000 }
-    {
-        for _ in 0..wait.sleeps {
-            match look_at(&self.socket, buf) {
-                Look::Nothing => self.sleep(wait.micros),
-                look => return look,
-            }
-        }
-        look_at(&self.socket, buf)
-    }
+/// Looks at a socket once.
+fn look_once<S: Datagrams>(socket: &mut S, buf: &mut [u8]) -> Result<Option<Got>, Failed>
+    requires { 70000 ≤ length buf.old }
+    ensures few { IfOk result (λ look. IfSome look (λ got. got.len ≤ 70000)) }
+    ensures looked { LooksOnce (S.told socket.old) (S.told socket.new) (told_in result buf.new) }
+{
+    told_of(socket.receive(&mut buf[..MOST]))
+}
 
-    /// Sleeps for so many microseconds.
-    fn sleep(&self, micros: u64) {
-        thread::sleep(&self.clock, Duration::from_micros(micros));
-    }
-
-    /// Whether the socket took the datagram for an end.
-    fn gives(&self, end: End) -> bool {
-        for _ in 0..TRIES {
-            match give(&self.socket, self.datagram.as_slice(), end) {
-                Gift::Taken => return true,
-                Gift::Later => self.sleep(1000),
-                Gift::Fault => return false,
-            }
-        }
-        false
-    }
-
-    /// Whether the socket took the datagram for each peer of a role.
-    fn gives_each(&self, role: Role) -> bool {
-        let mut all = true;
-        for peer in self.ends.peers() {
-            if peer.role == role && !self.gives(peer.end) {
-                all = false;
-            }
-        }
-        all
-    }
-
-    /// Whether the socket took the datagram for all for whom it is. There may be none.
-    fn gives_to(&self, to: Target) -> bool {
-        match to {
-            Target::System(snpa) => match End::at(&snpa) {
-                Some(end) => self.gives(end),
-                None => true,
-            },
-            Target::EndSystems => self.gives_each(Role::EndSystem),
-            Target::Routers => self.gives_each(Role::IntermediateSystem),
+/// Looks at a socket, and for a datagram that hasn't come yet as many times more as it waits.
+fn look<S: Datagrams>(
+    socket: &mut S,
+    clock: &impl Clock,
+    wait: Wait,
+    buf: &mut [u8],
+) -> Result<Option<Got>, Failed>
+    requires { 70000 ≤ length buf.old }
+    ensures few { IfOk result (λ look. IfSome look (λ got. got.len ≤ 70000)) }
+    ensures looked { LooksTo (S.told socket.old) (S.told socket.new) (told_in result buf.new) }
+{
+    for _ in 0..wait.sleeps {
+        match look_once(socket, buf) {
+            Ok(None) => sleep(clock, wait.micros),
+            look => return look,
         }
     }
+    look_once(socket, buf)
+}
+
+/// Sleeps for so many microseconds.
+fn sleep(clock: &impl Clock, micros: u64) {
+    thread::sleep(clock, Duration::from_micros(micros));
+}
+
+/// Gives a datagram for an end to a socket, and waits for room. Whether the socket took it.
+fn give<S: Datagrams>(socket: &mut S, clock: &impl Clock, datagram: &[u8], end: End) -> bool
+    ensures { GivesOne end datagram.now (S.told socket.old) (S.told socket.new) result }
+{
+    for _ in 1..TRIES {
+        let outcome = socket.give(datagram, address_of(end));
+        if !is_again(&outcome) {
+            return outcome.is_ok();
+        }
+        sleep(clock, 1000);
+    }
+    socket.give(datagram, address_of(end)).is_ok()
+}
+
+/// Gives a datagram for each of these ends to a socket. Whether the socket took it for all.
+fn give_each<S: Datagrams>(
+    socket: &mut S,
+    clock: &impl Clock,
+    datagram: &[u8],
+    ends: &[End],
+) -> bool
+    ensures { GivesEach ends.now datagram.now (S.told socket.old) (S.told socket.new) result }
+{
+    let mut all = true;
+    for end in ends {
+        all &= give(socket, clock, datagram, *end);
+    }
+    all
 }
 
 /// Whether there is room for the datagram of two pieces, which is then made of them.
@@ -174,31 +188,50 @@ fn made_of(datagram: &mut Vec<u8>, head: &[u8], body: &[u8]) -> bool
     true
 }
 
-impl<R: Clock + Drop> Link for UdpLink<R> {
-    ghost seen = { λ l. record { looks = None; sent = None; faults = l.faults; empties = l.empties } };
+impl<R: Clock + Drop, S: Datagrams + Drop> Link for UdpLink<R, S> {
+    ghost use Rattle.frame_links.specs.UdpLinks.Sockets.{state_of};
 
-    fn poll(&mut self, buf: &mut [u8]) -> Result<Option<Got>, Failed> {
+    ghost seen = { λ l. state_of l.faults l.empties };
+
+    /// Tells what the last of its looks at the socket saw; each before it saw nothing.
+    fn poll(&mut self, buf: &mut [u8]) -> Result<Option<Got>, Failed>
+        requires { 70000 ≤ length buf.old }
+        ensures polled { PollOf (state_of self.old.faults self.old.empties) (state_of self.new.faults self.new.empties)
+            buf.new result }
+        ensures few { IfOk result (λ look. IfSome look (λ got. got.len ≤ 70000)) }
+
+        ensures looked { LooksTo (S.told self.old.socket) (S.told self.new.socket) (told_in result buf.new) }
+        ensures ends { self.new.ends ≡ self.old.ends }
+    {
         let wait = wait_behind(self.traffic.empty_rounds());
-        match self.look(wait, buf) {
-            Look::Frame(got) => {
-                self.traffic.datagram_comes();
-                Ok(Some(got))
-            }
-            Look::Nothing => {
+        let look = look(&mut self.socket, &self.clock, wait, buf);
+        match look {
+            Ok(Some(_)) => self.traffic.datagram_comes(),
+            Ok(None) => {
                 self.traffic.nothing_comes();
                 self.empties = self.empties.saturating_add(1);
-                Ok(None)
             }
-            Look::Fault => {
-                self.faults = self.faults.saturating_add(1);
-                Err(Failed)
-            }
+            Err(Failed) => self.faults = self.faults.saturating_add(1),
         }
+        look
     }
 
-    fn send(&mut self, to: Target, head: &[u8], body: &[u8]) -> Result<(), Failed> {
-        if made_of(&mut self.datagram, head, body) && self.gives_to(to) {
-            return Ok(());
+    /// Gives the frame to the socket as one datagram for each of its receivers, and fails exactly where the socket didn't
+    /// take it for all of them, or where it is longer than 70,000 octets.
+    fn send(&mut self, to: Target, head: &[u8], body: &[u8]) -> Result<(), Failed>
+        ensures sent { SendOf (state_of self.old.faults self.old.empties) (state_of self.new.faults self.new.empties)
+            (record { target = to; octets = head.now ++ body.now }) result }
+
+        ensures given { Sends self.old.ends (record { target = to; octets = head.now ++ body.now })
+            (S.told self.old.socket) (S.told self.new.socket) (is_ok result) }
+        ensures ends { self.new.ends ≡ self.old.ends }
+    {
+        if made_of(&mut self.datagram, head, body) {
+            let ends = receivers(&self.ends, to);
+            let datagram = self.datagram.as_slice();
+            if give_each(&mut self.socket, &self.clock, datagram, ends.as_slice()) {
+                return Ok(());
+            }
         }
         self.faults = self.faults.saturating_add(1);
         Err(Failed)
