@@ -202,7 +202,8 @@ together buffers arrival = kept_in (buffer_of arrival.key buffers) ++ arrival �
 pub record MakesWhole (buffers : List (Buffer Packet)) (arrival : Arrival Packet) (octets : List ℕ) : Type 0 where
   pub all : are_covered (together buffers arrival) 0 (data_len arrival.shape) ≡ true
   pub data_are :
-      octets ≡ map (λ place. octet_by octet_of place (earliest (together buffers arrival) place)) (range_with_len 0 (data_len arrival.shape))
+      octets ≡ map (λ place. octet_by octet_of place (earliest (together buffers arrival) place))
+      (range_with_len 0 (data_len arrival.shape))
 
 -- A packet for the system is all of its unit, or makes it whole, and that is told with the unit's data.
 pub record HandsUpUnit (s : SystemState) (p : Packet) (following : List ℕ) (effect : Effect) : Type 0 where
@@ -334,7 +335,8 @@ SegmentsStayOrAreTold s input effect buffer =
 pub record NothingVanishes : Type 0 where
   pub packets : (s : SystemState) (port : ℕ) (sender : List ℕ) (to_group : Bool) (p : Packet) (following : List ℕ)
       → AllByRecursion IsPort s.attached.ports → IsCarriable p
-      → HasOneFateInFrame s p following (step s (FrameComes port sender to_group (Labelled p following)))
+      → let comes = FrameComes port sender to_group (Labelled p following) in
+      HasOneFateInFrame s p following (step s comes)
   pub octets : (s : SystemState) (port : ℕ) (sender : List ℕ) (to_group : Bool) (octets : List ℕ)
       → TellsOfOctets (step s (FrameComes port sender to_group (Unlabelled octets))).outputs
   pub asked : (s : SystemState) (from to octets : List ℕ) (ask : Ask) → AllByRecursion IsPort s.attached.ports
@@ -343,7 +345,8 @@ pub record NothingVanishes : Type 0 where
       → MakesOrRefuses s Erq from to octets (step s (AsksForEcho from to octets))
   pub made : (s : SystemState) (input : Input) → IsSystem s.configuration → AllByRecursion IsPort s.attached.ports
       → IsFair input → All IsAddress s.configuration.addresses → KeepsAsOffered s
-      → AllByRecursion (GivesOutFor (at_moment (moment_after s input) s) (step s input).outputs) (step s input).units
+      → let effect = step s input in
+      AllByRecursion (GivesOutFor (at_moment (moment_after s input) s) effect.outputs) effect.units
   pub kept : (s : SystemState) (input : Input) → AllByRecursion IsPort s.attached.ports
       → AllByRecursion (StaysOrIsTold s input (step s input)) s.buffers
   pub segments : (s : SystemState) (input : Input) → AllByRecursion IsPort s.attached.ports
