@@ -4,6 +4,7 @@ use Rattle.std.specs.List.{AllByRecursion, Contains, range_with_len}
 use Rattle.pdus.specs.MadePdus.Range.{Partition, Range, Tiles}
 use Rattle.clnp_plan.specs.Pdus.declared.pdu_header.kind.Kind.{Kind}
 use Rattle.clnp_plan.specs.Pdus.declared.pdu_header.kind.Kind.TheVariants.{Dt, Er, Erq, Erp}
+use Rattle.system_tables.specs.declared.reassembly.segment.Key.{Key}
 use Rattle.system_tables.specs.Reassembly.Arrival.{Arrival, are_covered, data_len, earliest, same_key}
 use Rattle.system_tables.specs.Reassembly.Buffer.{Buffer, buffer_of, held, kept_in, octet_by}
 use Rattle.clnp_plan.specs.ClnpOptions.Edits.{target_of}
@@ -330,6 +331,16 @@ abbrev pub SegmentsStayOrAreTold : SystemState → Input → Effect → Buffer P
 SegmentsStayOrAreTold s input effect buffer =
     AllByRecursion (Contains (segments_in effect.after.buffers)) buffer.kept ⊎ IsToldOf s input effect buffer
 
+-- no two buffers have one key
+abbrev pub HaveOneOfEachKey : List (Buffer Packet) → Type 0
+HaveOneOfEachKey [] = Unit {0}
+HaveOneOfEachKey (buffer ∷ later) =
+    AllByRecursion (λ other. same_key other.key buffer.key ≡ false) later × HaveOneOfEachKey later
+
+-- a buffer is the one of its key among some
+abbrev pub IsTheOneOfItsKey : List (Buffer Packet) → Buffer Packet → Type 0
+IsTheOneOfItsKey buffers buffer = (key : Key) → same_key buffer.key key ≡ true → buffer_of key buffers ≡ Some buffer
+
 -- In no step does anything vanish: a packet that comes, octets that spell no PDU, a unit that is asked for or made, and what is
 -- kept.
 pub record NothingVanishes : Type 0 where
@@ -351,3 +362,7 @@ pub record NothingVanishes : Type 0 where
       → AllByRecursion (StaysOrIsTold s input (step s input)) s.buffers
   pub segments : (s : SystemState) (input : Input) → AllByRecursion IsPort s.attached.ports
       → AllByRecursion (SegmentsStayOrAreTold s input (step s input)) s.buffers
+  pub one_of_a_key : (buffers : List (Buffer Packet)) → HaveOneOfEachKey buffers
+      → AllByRecursion (IsTheOneOfItsKey buffers) buffers
+  pub keys : (s : SystemState) (input : Input) → HaveOneOfEachKey s.buffers
+      → HaveOneOfEachKey (step s input).after.buffers

@@ -51,7 +51,7 @@ ghost use Rattle.clnp_machine.specs.Due.{FollowsTimer, IsAskedByGroup, IsHelloDu
 ghost use Rattle.clnp_machine.specs.Ports.{ComesByPort, GoesByPort};
 ghost use Rattle.clnp_machine.specs.Requests.{AnswersNone, AnswersNothing, AnswersOldest, StayUnlessAnswered, newest};
 ghost use Rattle.clnp_machine.specs.Ways.{BeginsWithDiscard, CallsForRedirect, IsAllOfItsUnit, IsAllowedWay, IsDiscardedFor, IsFirstOrGoesOn, IsOnRoute, IsOwnWhereFirst, SendsItsWay, aim_of};
-ghost use Rattle.clnp_machine.specs.Whereabouts.{GivesOutFor, HasOneFate, HasOneFateInFrame, MakesOrRefuses, NothingVanishes, SegmentsStayOrAreTold, StaysOrIsTold, TellsOfOctets};
+ghost use Rattle.clnp_machine.specs.Whereabouts.{GivesOutFor, HasOneFate, HasOneFateInFrame, HaveOneOfEachKey, IsTheOneOfItsKey, MakesOrRefuses, NothingVanishes, SegmentsStayOrAreTold, StaysOrIsTold, TellsOfOctets};
 ghost use Rattle.clnp_machine.specs.EveryStep.{AreCarriable, AreNumbered, IsAtMostReportOf, IsFairChange, IsMadeFor, IsNoChange, IsNoRestart, IsRedirectFor, KeepsAsOffered, KeepsNextHops, KnowsAddresses, ReportsOn, RestartsNothing, WasPendingOrMade, BreaksNoEsisRule, BreaksNoRule, CarriesOneEsisValue, CarriesOnePacket, IsAtMostItsHello, IsAtMostOneTo, IsDeed, IsEffect, IsFair, IsForOwn, GoesOnOrIsReported, IsFresh, IsRangeOf, IsWithinBudget, NotesOnly, OnlyHellos, SendsCarriable, SendsEsisPdus, SendsItsOwn, SendsRangesOrGoesOn, StaysItself, WasKeptOrComes, attached_after, moment_after, segments_in, sends_esis, sends_frame};
 ghost use Rattle.clnp_machine.specs.Told.{IsAllowed, IsRefusal, IsToldBy, LeavesRefused, MayBeDrawn, NoteIsQuiet, NotesNoRule, SpellsPdus, TellsNoInterference, TellsOnly, WasThereOrTakes};
 
@@ -503,12 +503,17 @@ pub fn each_ended_buffer_is_taken_out()
 
 /// What is kept stays or is told of, whatever comes: each buffer is left as it is, or with the segment that comes, kept in it; or
 /// that segment makes its unit whole, which is told with the unit's data; or its time has ended, or the system is restarted, which
-/// is noted. So each segment is still kept, or one of these is told of its buffer.
+/// is noted. So each segment is still kept, or one of these is told of its buffer. Where no two buffers have one key, each is the
+/// one of its key, and no step changes that.
 pub fn what_is_kept_stays_or_is_told()
     ensures buffers { (s : SystemState) (input : Input) → AllByRecursion IsPort s.attached.ports
         → AllByRecursion (StaysOrIsTold s input (step s input)) s.buffers }
     ensures segments { (s : SystemState) (input : Input) → AllByRecursion IsPort s.attached.ports
         → AllByRecursion (SegmentsStayOrAreTold s input (step s input)) s.buffers }
+    ensures one_of_a_key { (buffers : List (Buffer Packet)) → HaveOneOfEachKey buffers
+        → AllByRecursion (IsTheOneOfItsKey buffers) buffers }
+    ensures keys { (s : SystemState) (input : Input) → HaveOneOfEachKey s.buffers
+        → HaveOneOfEachKey (step s input).after.buffers }
 {}
 
 /// In no step does anything vanish: one record has the laws of packets, units and what is kept.
