@@ -46,21 +46,21 @@ unless_keeps : (s : SystemState) (u : DataUnit) (refused : Option Note) → (unl
 unless_keeps s u None = refl
 unless_keeps s u (Some told) = refl
 
-make_keeps : (s : SystemState) (kind : Kind) (from to octets : List ℕ) (ask : Ask) → (make s kind from to octets ask).after.buffers ≡ s.buffers
+pub make_keeps : (s : SystemState) (kind : Kind) (from to octets : List ℕ) (ask : Ask) → (make s kind from to octets ask).after.buffers ≡ s.buffers
 make_keeps s kind from to octets ask = unless_keeps s (unit_of s kind from to octets ask) (why_unmade s (unit_of s kind from to octets ask))
 
 reply_keeps : (s : SystemState) (from to octets : List ℕ) (found : Option DataUnit) → (takes_reply s from to octets found).after.buffers ≡ s.buffers
 reply_keeps s from to octets None = refl
 reply_keeps s from to octets (Some request) = refl
 
-hand_up_keeps : (s : SystemState) (kind : Kind) (from to octets : List ℕ) (options : List Parameter)
+pub hand_up_keeps : (s : SystemState) (kind : Kind) (from to octets : List ℕ) (options : List Parameter)
     → (hand_up s kind from to octets options).after.buffers ≡ s.buffers
 hand_up_keeps s Dt from to octets options = refl
 hand_up_keeps s Er from to octets options = refl
 hand_up_keeps s Erq from to octets options = make_keeps s Erp to from octets (echo_ask s to from (length octets) false)
 hand_up_keeps s Erp from to octets options = reply_keeps s from to octets (find (is_answer from to octets) s.pending)
 
-discard_keeps : (s : SystemState) (frame : Content) (reason place : ℕ) → (discard s frame reason place).after.buffers ≡ s.buffers
+pub discard_keeps : (s : SystemState) (frame : Content) (reason place : ℕ) → (discard s frame reason place).after.buffers ≡ s.buffers
 discard_keeps s frame reason place = reports_keep s (frame_of frame) reason place (slice_get s.configuration.addresses 0)
 
 -- Where a segment is kept.

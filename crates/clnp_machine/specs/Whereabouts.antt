@@ -4,6 +4,7 @@ use Rattle.std.specs.List.{AllByRecursion, Contains, range_with_len}
 use Rattle.pdus.specs.MadePdus.Range.{Partition, Range, Tiles}
 use Rattle.clnp_plan.specs.Pdus.declared.pdu_header.kind.Kind.{Kind}
 use Rattle.clnp_plan.specs.Pdus.declared.pdu_header.kind.Kind.TheVariants.{Dt, Er, Erq, Erp}
+use Rattle.system_tables.specs.declared.reassembly.segment.Key.{Key}
 use Rattle.system_tables.specs.Reassembly.Arrival.{Arrival, are_covered, data_len, earliest, same_key}
 use Rattle.system_tables.specs.Reassembly.Buffer.{Buffer, buffer_of, held, kept_in, octet_by}
 use Rattle.clnp_plan.specs.ClnpOptions.Edits.{target_of}
@@ -202,7 +203,8 @@ together buffers arrival = kept_in (buffer_of arrival.key buffers) ++ arrival �
 pub record MakesWhole (buffers : List (Buffer Packet)) (arrival : Arrival Packet) (octets : List ℕ) : Type 0 where
   pub all : are_covered (together buffers arrival) 0 (data_len arrival.shape) ≡ true
   pub data_are :
-      octets ≡ map (λ place. octet_by octet_of place (earliest (together buffers arrival) place)) (range_with_len 0 (data_len arrival.shape))
+      octets ≡ map (λ place. octet_by octet_of place (earliest (together buffers arrival) place))
+      (range_with_len 0 (data_len arrival.shape))
 
 -- A packet for the system is all of its unit, or makes it whole, and that is told with the unit's data.
 pub record HandsUpUnit (s : SystemState) (p : Packet) (following : List ℕ) (effect : Effect) : Type 0 where
@@ -329,12 +331,23 @@ abbrev pub SegmentsStayOrAreTold : SystemState → Input → Effect → Buffer P
 SegmentsStayOrAreTold s input effect buffer =
     AllByRecursion (Contains (segments_in effect.after.buffers)) buffer.kept ⊎ IsToldOf s input effect buffer
 
+-- no two buffers have one key
+abbrev pub HaveOneOfEachKey : List (Buffer Packet) → Type 0
+HaveOneOfEachKey [] = Unit {0}
+HaveOneOfEachKey (buffer ∷ later) =
+    AllByRecursion (λ other. same_key other.key buffer.key ≡ false) later × HaveOneOfEachKey later
+
+-- a buffer is the one of its key among some
+abbrev pub IsTheOneOfItsKey : List (Buffer Packet) → Buffer Packet → Type 0
+IsTheOneOfItsKey buffers buffer = (key : Key) → same_key buffer.key key ≡ true → buffer_of key buffers ≡ Some buffer
+
 -- In no step does anything vanish: a packet that comes, octets that spell no PDU, a unit that is asked for or made, and what is
 -- kept.
 pub record NothingVanishes : Type 0 where
   pub packets : (s : SystemState) (port : ℕ) (sender : List ℕ) (to_group : Bool) (p : Packet) (following : List ℕ)
       → AllByRecursion IsPort s.attached.ports → IsCarriable p
-      → HasOneFateInFrame s p following (step s (FrameComes port sender to_group (Labelled p following)))
+      → let comes = FrameComes port sender to_group (Labelled p following) in
+      HasOneFateInFrame s p following (step s comes)
   pub octets : (s : SystemState) (port : ℕ) (sender : List ℕ) (to_group : Bool) (octets : List ℕ)
       → TellsOfOctets (step s (FrameComes port sender to_group (Unlabelled octets))).outputs
   pub asked : (s : SystemState) (from to octets : List ℕ) (ask : Ask) → AllByRecursion IsPort s.attached.ports
@@ -343,8 +356,13 @@ pub record NothingVanishes : Type 0 where
       → MakesOrRefuses s Erq from to octets (step s (AsksForEcho from to octets))
   pub made : (s : SystemState) (input : Input) → IsSystem s.configuration → AllByRecursion IsPort s.attached.ports
       → IsFair input → All IsAddress s.configuration.addresses → KeepsAsOffered s
-      → AllByRecursion (GivesOutFor (at_moment (moment_after s input) s) (step s input).outputs) (step s input).units
+      → let effect = step s input in
+      AllByRecursion (GivesOutFor (at_moment (moment_after s input) s) effect.outputs) effect.units
   pub kept : (s : SystemState) (input : Input) → AllByRecursion IsPort s.attached.ports
       → AllByRecursion (StaysOrIsTold s input (step s input)) s.buffers
   pub segments : (s : SystemState) (input : Input) → AllByRecursion IsPort s.attached.ports
       → AllByRecursion (SegmentsStayOrAreTold s input (step s input)) s.buffers
+  pub one_of_a_key : (buffers : List (Buffer Packet)) → HaveOneOfEachKey buffers
+      → AllByRecursion (IsTheOneOfItsKey buffers) buffers
+  pub keys : (s : SystemState) (input : Input) → HaveOneOfEachKey s.buffers
+      → HaveOneOfEachKey (step s input).after.buffers

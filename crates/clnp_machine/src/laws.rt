@@ -51,7 +51,7 @@ ghost use Rattle.clnp_machine.specs.Due.{FollowsTimer, IsAskedByGroup, IsHelloDu
 ghost use Rattle.clnp_machine.specs.Ports.{ComesByPort, GoesByPort};
 ghost use Rattle.clnp_machine.specs.Requests.{AnswersNone, AnswersNothing, AnswersOldest, StayUnlessAnswered, newest};
 ghost use Rattle.clnp_machine.specs.Ways.{BeginsWithDiscard, CallsForRedirect, IsAllOfItsUnit, IsAllowedWay, IsDiscardedFor, IsFirstOrGoesOn, IsOnRoute, IsOwnWhereFirst, SendsItsWay, aim_of};
-ghost use Rattle.clnp_machine.specs.Whereabouts.{GivesOutFor, HasOneFate, HasOneFateInFrame, MakesOrRefuses, NothingVanishes, SegmentsStayOrAreTold, StaysOrIsTold, TellsOfOctets};
+ghost use Rattle.clnp_machine.specs.Whereabouts.{GivesOutFor, HasOneFate, HasOneFateInFrame, HaveOneOfEachKey, IsTheOneOfItsKey, MakesOrRefuses, NothingVanishes, SegmentsStayOrAreTold, StaysOrIsTold, TellsOfOctets};
 ghost use Rattle.clnp_machine.specs.EveryStep.{AreCarriable, AreNumbered, IsAtMostReportOf, IsFairChange, IsMadeFor, IsNoChange, IsNoRestart, IsRedirectFor, KeepsAsOffered, KeepsNextHops, KnowsAddresses, ReportsOn, RestartsNothing, WasPendingOrMade, BreaksNoEsisRule, BreaksNoRule, CarriesOneEsisValue, CarriesOnePacket, IsAtMostItsHello, IsAtMostOneTo, IsDeed, IsEffect, IsFair, IsForOwn, GoesOnOrIsReported, IsFresh, IsRangeOf, IsWithinBudget, NotesOnly, OnlyHellos, SendsCarriable, SendsEsisPdus, SendsItsOwn, SendsRangesOrGoesOn, StaysItself, WasKeptOrComes, attached_after, moment_after, segments_in, sends_esis, sends_frame};
 ghost use Rattle.clnp_machine.specs.Told.{IsAllowed, IsRefusal, IsToldBy, LeavesRefused, MayBeDrawn, NoteIsQuiet, NotesNoRule, SpellsPdus, TellsNoInterference, TellsOnly, WasThereOrTakes};
 
@@ -214,9 +214,9 @@ pub fn a_source_route_leads_elsewhere()
     clnp_plan::options::laws::a_source_route_leads_on();
 }
 
-/// A packet for another address goes on by the way to the title to which its source route leads next, else to its
-/// destination, or it is discarded. With a complete source route it goes on only where it was led to this router, and to no
-/// other system before the next one of its route (ISO 8473, section 6.14).
+/// What is sent of a packet for another address goes by the way to the title to which its source route leads next, else to its
+/// destination, unless the packet is discarded. With a complete source route it goes on only where it was led to this router, and
+/// to no other system before the next one of its route (ISO 8473, section 6.14).
 pub fn packets_go_their_way()
     ensures { (s : SystemState) (came : Neighbour) (p : Packet) (following : List ℕ)
         → let outputs = (passes_by Router s came p following).outputs in
@@ -225,14 +225,16 @@ pub fn packets_go_their_way()
 
 /// A packet that comes has exactly one fate, whatever the state: it goes on, all of it; it is discarded with a note of the
 /// reason; it is handed up with the data that it makes whole; it is kept; it was kept before; or it is left by a host that doesn't
-/// have its destination. So it is of one that comes in a frame. Octets that spell no PDU are told of.
+/// have its destination. So it is of one that comes in a frame. Octets that spell no PDU are told of. Where nothing is given
+/// out for a packet, it has none of these fates.
 pub fn each_packet_has_one_fate()
     ensures packet { (s : SystemState) (came : Neighbour) (p : Packet) (following : List ℕ)
         → AllByRecursion IsPort s.attached.ports → IsCarriable p
         → HasOneFate s p following (packet_comes s came p following) }
     ensures frame { (s : SystemState) (port : ℕ) (sender : List ℕ) (to_group : Bool) (p : Packet) (following : List ℕ)
         → AllByRecursion IsPort s.attached.ports → IsCarriable p
-        → HasOneFateInFrame s p following (step s (FrameComes port sender to_group (Labelled p following))) }
+        → let comes = FrameComes port sender to_group (Labelled p following) in
+        HasOneFateInFrame s p following (step s comes) }
     ensures octets { (s : SystemState) (port : ℕ) (sender : List ℕ) (to_group : Bool) (octets : List ℕ)
         → TellsOfOctets (step s (FrameComes port sender to_group (Unlabelled octets))).outputs }
     ensures told { (s : SystemState) (p : Packet) (following : List ℕ) (effect : Effect)
@@ -472,7 +474,8 @@ pub fn each_unit_is_sent_or_dropped()
         → MakesOrRefuses s Erq from to octets (step s (AsksForEcho from to octets)) }
     ensures each { (s : SystemState) (input : Input) → IsSystem s.configuration → AllByRecursion IsPort s.attached.ports
         → IsFair input → All IsAddress s.configuration.addresses → KeepsAsOffered s
-        → AllByRecursion (GivesOutFor (at_moment (moment_after s input) s) (step s input).outputs) (step s input).units }
+        → let effect = step s input in
+        AllByRecursion (GivesOutFor (at_moment (moment_after s input) s) effect.outputs) effect.units }
 {}
 
 /// A discard for a rule of PDUs is noted only where octets come that spell no PDU.
@@ -500,12 +503,17 @@ pub fn each_ended_buffer_is_taken_out()
 
 /// What is kept stays or is told of, whatever comes: each buffer is left as it is, or with the segment that comes, kept in it; or
 /// that segment makes its unit whole, which is told with the unit's data; or its time has ended, or the system is restarted, which
-/// is noted. So each segment is still kept, or one of these is told of its buffer.
+/// is noted. So each segment is still kept, or one of these is told of its buffer. Where no two buffers have one key, each is the
+/// one of its key, and no step changes that.
 pub fn what_is_kept_stays_or_is_told()
     ensures buffers { (s : SystemState) (input : Input) → AllByRecursion IsPort s.attached.ports
         → AllByRecursion (StaysOrIsTold s input (step s input)) s.buffers }
     ensures segments { (s : SystemState) (input : Input) → AllByRecursion IsPort s.attached.ports
         → AllByRecursion (SegmentsStayOrAreTold s input (step s input)) s.buffers }
+    ensures one_of_a_key { (buffers : List (Buffer Packet)) → HaveOneOfEachKey buffers
+        → AllByRecursion (IsTheOneOfItsKey buffers) buffers }
+    ensures keys { (s : SystemState) (input : Input) → HaveOneOfEachKey s.buffers
+        → HaveOneOfEachKey (step s input).after.buffers }
 {}
 
 /// In no step does anything vanish: one record has the laws of packets, units and what is kept.

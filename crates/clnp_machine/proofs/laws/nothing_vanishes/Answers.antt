@@ -13,4 +13,6 @@ returns c =
       made = units.each;
       kept = kept.buffers;
       segments = kept.segments;
+      one_of_a_key = kept.one_of_a_key;
+      keys = kept.keys;
     }
