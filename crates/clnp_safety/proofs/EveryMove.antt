@@ -1,6 +1,6 @@
 -- What each step of a system keeps, whatever comes to it, or whatever comes that a plan's events allow, each move keeps.
 use Rattle.clnp_machine.proofs.ClnpBase.Lists.{AllByRecursion-any, AllByRecursion-slice_get}
-use Rattle.std.proofs.Common.{◌≡◌, ℕ, refl, sym, subst, ◌∙◌, List, [], ◌∷◌, ◌++◌, ◌+◌, ◌<◌, length, ◌-◌, Bool}
+use Rattle.std.proofs.Common.{◌≡◌, ℕ, refl, sym, subst, ◌∙◌, List, [], ◌∷◌, ◌++◌, ◌+◌, ◌<◌, length, Bool}
 use Rattle.std.specs.Prelude.{max, slice_get, slice_set, Option, None, Some}
 use Rattle.std.specs.List.{AllByRecursion, range_with_len}
 use Rattle.clnp_machine.specs.Pdus.declared.nsap.target.Target.{Target}
@@ -25,7 +25,7 @@ use Rattle.std.proofs.lemmas.Option.{same_Some}
 use Rattle.clnp_safety.specs.Growth.{IsFront}
 use Rattle.clnp_safety.proofs.Grows.{effect_copies, front-more}
 use Rattle.clnp_safety.proofs.Lines.{AnyLine}
-use Rattle.clnp_safety.proofs.Steps.{ChangingIsFine, keeps-map, keeps-put_all_out, InjectedIsFine, Keeps, GivingIsFine, keeps-nothing, keeps-followed_by, keeps-comes_to, keeps-asks, keeps-give_each, keeps-settle_for, keeps-deliver, keeps-injects, keeps-moves_port, keeps-removes_route, keeps-resizes, keeps-sets_route, with_outside}
+use Rattle.clnp_safety.proofs.Steps.{copy_there, ChangingIsFine, keeps-map, keeps-put_all_out, InjectedIsFine, Keeps, GivingIsFine, keeps-nothing, keeps-followed_by, keeps-comes_to, keeps-asks, keeps-give_each, keeps-settle_for, keeps-deliver, keeps-injects, keeps-moves_port, keeps-removes_route, keeps-resizes, keeps-sets_route, with_outside}
 
 -- what an event asks of a system, or changes of it, is such as Comes says, and a frame from outside such as Brings says of its sender
 -- and octets
@@ -170,7 +170,9 @@ module _ (Comes : LabelledNetwork → Input → Type 0) (Brings : List ℕ → L
       → Keeps K Q (event_happens subnets limits w asked)
   keeps-event subnets limits w (Some (Deliver number system)) may k =
       keeps-deliver K Q each.fine limits w number system k
-      (λ copy e s there soon. each.steps w system s (frame_to s copy) there (each.frames w (number - 1) copy e k w (follows-itself w) s) tt k)
+      (λ copy e s there soon.
+      let found = copy_there number w.copies copy e in
+      each.steps w system s (frame_to s copy) there (each.frames w found.0 copy found.1 k w (follows-itself w) s) tt k)
   keeps-event subnets limits w (Some (Restart system)) may k = keeps-comes w system IsRestarted (each.restarts w) (λ s there. tt) k
   keeps-event subnets limits w (Some (Congest system on)) may k = keeps-comes w system (IsCongested on) (each.congestion w on) (λ s there. tt) k
   keeps-event subnets limits w (Some (Send system from to body ask)) may k =

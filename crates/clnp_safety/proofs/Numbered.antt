@@ -1,6 +1,6 @@
 -- Each transmission that a line tells of is the copy with its number, since all that is sent goes by a port that is there.
 use Rattle.clnp_machine.proofs.ClnpBase.Lists.{AllByRecursion-append, AllByRecursion-implies, set_each, slice_get-push, slice_get_some}
-use Rattle.std.proofs.Common.{◌≡◌, ◌∙◌, refl, sym, ap, subst, ℕ, zero, suc, ◌+◌, ◌-◌, ◌<◌, inl, inr, true, List, [], ◌∷◌, ◌++◌, append-nil, length, Option, None, Some, arith}
+use Rattle.std.proofs.Common.{◌≡◌, ◌∙◌, refl, sym, ap, subst, ℕ, zero, suc, ◌+◌, ◌<◌, inl, inr, true, List, [], ◌∷◌, ◌++◌, append-nil, length, Option, None, Some, arith}
 use Rattle.std.specs.Prelude.{◌==◌, max, nat_lt, slice_get, slice_set}
 use Rattle.std.specs.List.{AllByRecursion, list_any, range_with_len}
 use Rattle.std.proofs.lemmas.Bool.{cases_Bool}
@@ -29,7 +29,7 @@ use Rattle.clnp_machine.specs.Change.{Change, PortIsAt, PortTakes, RouteIsGone, 
 use Rattle.clnp_machine.specs.System.{SystemState, Input, AsksToSend, AsksForEcho, MomentComes, IsRestarted, IsCongested, IsChanged, Output, Transmits, SendsEsis, Notes, Effect}
 use Rattle.clnp_machine.specs.Ports.{ComesByPort, GoesByPort}
 use Rattle.clnp_machine.specs.Step.{step}
-use Rattle.clnp_machine.specs.ClnpNetwork.LabelledNetwork.{LabelledNetwork, Copy, Numbered, Step, addressees_from, after, asks_role, asks_system, comes, comes_to, copy_from, deliver_at, deliver_to, enters, event_happens, first_port, followed_by, for_nobody, frame_to, give, give_each, give_to, injects_on, is_addressee, is_late, lose_copy, nothing, put_all_out, put_out, sends_frame, settle_copy, takes_effect, goes_on, tick_alone, tick_each, with_effect, writes, tells_of, ports_of, moved, moves_port_to, moves_port_of, moves_port_on, sets_route_as, sets_route_of, removes_route_as, removes_route_of, resizes_port_of, resizes_port, resizes_ports, resizes_at, resizes_each, resizes_on}
+use Rattle.clnp_machine.specs.ClnpNetwork.LabelledNetwork.{LabelledNetwork, Copy, Numbered, Step, addressees_from, after, asks_role, asks_system, comes, comes_to, copy_from, copy_numbered, deliver_at, deliver_to, enters, event_happens, first_port, followed_by, for_nobody, frame_to, give, give_each, give_to, injects_on, is_addressee, is_late, lose_copy, nothing, put_all_out, put_out, sends_frame, settle_copy, takes_effect, goes_on, tick_alone, tick_each, with_effect, writes, tells_of, ports_of, moved, moves_port_to, moves_port_of, moves_port_on, sets_route_as, sets_route_of, removes_route_as, removes_route_of, resizes_port_of, resizes_port, resizes_ports, resizes_at, resizes_each, resizes_on}
 use Rattle.clnp_safety.specs.Growth.{IsCopyAt, IsFront, TellsItsCopy}
 use Rattle.clnp_safety.specs.StepLaws.{StepLaws}
 use Rattle.clnp_machine.proofs.ClnpBase.Choices.{one_of}
@@ -43,10 +43,19 @@ got_before [] ys i x e = absurd (cc)
 got_before (y ∷ xs) ys zero x e = e
 got_before (y ∷ xs) ys (suc i) x e = got_before xs ys i x e
 
+numbered_before : (xs ys : List Copy) (number : ℕ) (copy : Copy) → copy_numbered number xs ≡ Some copy → copy_numbered number (xs ++ ys) ≡ Some copy
+numbered_before xs ys zero copy e = absurd (cc)
+numbered_before xs ys (suc at) copy e = got_before xs ys at copy e
+
+-- a copy that is put behind others has the next number
+numbered_push : (xs : List Copy) (number : ℕ) (copy : Copy) → number ≡ length xs + 1 → copy_numbered number (xs ++ copy ∷ []) ≡ Some copy
+numbered_push xs zero copy is = absurd (omega arith)
+numbered_push xs (suc at) copy is = slice_get-push xs at copy (omega arith)
+
 line_later : (copies more : List Copy) (line : Line) → TellsItsCopy copies line → TellsItsCopy (copies ++ more) line
 line_later copies more (Transmitted now name number port target octets) h = record {
   copy = h.copy;
-  there = got_before copies more (number - 1) h.copy h.there;
+  there = numbered_before copies more number h.copy h.there;
   for_target = h.for_target;
   carries = h.carries;
 }
@@ -82,14 +91,13 @@ frame_tells : (system : SystemState) (w : LabelledNetwork) (port : ℕ) (target 
     → port < length system.attached.ports → Tells w (sends_frame system w port target maker birth content)
 frame_tells system w port target maker birth content within =
     let found = slice_get_some system.attached.ports port within in
-    let at : length w.copies ≡ length w.copies + 1 - 1 = omega arith in
     let copy : Copy = record { subnet = found.0.subnet; sender = found.0.snpa; target = target; maker = maker; birth = birth; content = content } in
     record {
       front = (copy_from (slice_get system.attached.ports port) target maker birth content, refl);
       lines = (
         subst (λ (config : Option PortConfig).
             IsCopyAt (w.copies ++ copy_from config target maker birth content) (length w.copies + 1) target (frame_of content)) (sym found.1)
-            (record { copy = copy; there = slice_get-push w.copies (length w.copies + 1 - 1) copy at; for_target = refl; carries = refl }),
+            (record { copy = copy; there = numbered_push w.copies (length w.copies + 1) copy refl; for_target = refl; carries = refl }),
         tt,
       );
     }
@@ -285,7 +293,7 @@ module _ (laws : StepLaws) (ports : GoByPorts) where
   deliver_tells : (limits : Limits) (w : LabelledNetwork) (number place : ℕ) (found : Option SystemState) → slice_get w.systems place ≡ found
       → Tells w (deliver_at limits w number place found)
   deliver_tells limits w number place None e = tells_nothing w
-  deliver_tells limits w number place (Some system) e = deliver_to_tells limits w number place (slice_get w.copies (number - 1)) system e
+  deliver_tells limits w number place (Some system) e = deliver_to_tells limits w number place (copy_numbered number w.copies) system e
 
   injects_tells : (w : LabelledNetwork) (subnet : ℕ) (found : Option Subnetwork) (sender : List ℕ) (target : Target) (octets : List ℕ)
       → Tells w (injects_on w subnet found sender target octets)

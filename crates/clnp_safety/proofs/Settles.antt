@@ -1,7 +1,7 @@
 -- Settling, delivering and losing copies.
 use Rattle.clnp_machine.proofs.ClnpBase.Lists.{AllByRecursion-slice_get, slice_get_some}
 use Rattle.clnp_machine.proofs.ClnpBase.ListSteps.{slice_get_map}
-use Rattle.std.proofs.Common.{◌≡◌, ◌∙◌, ◌≤◌, ℕ, List, ◌+◌, ◌-◌, false, refl, sym, ap, subst, arith, Contains}
+use Rattle.std.proofs.Common.{◌≡◌, ◌∙◌, ◌≤◌, ℕ, List, ◌+◌, false, refl, sym, ap, subst, arith, Contains}
 use Rattle.std.specs.Prelude.{slice_get, Option, None, Some}
 use Rattle.std.proofs.lemmas.Option.{slice_get_within}
 use Rattle.clnp_machine.specs.ScenarioPlan.Plan.{Plan, IsFit}
@@ -20,7 +20,7 @@ use Rattle.clnp_safety.specs.Invariant.{Carries, CopyIsSound, IsBornWithUnit, Wo
 use Rattle.clnp_safety.specs.Outside.{IsMadeBy}
 use Rattle.clnp_safety.specs.StepLaws.{StepLaws}
 use Rattle.clnp_safety.proofs.Lines.{LineIs}
-use Rattle.clnp_safety.proofs.Steps.{Keeps, GivingIsFine, keeps-map, keeps-nothing, keeps-give_each, keeps-settle_for, keeps-deliver}
+use Rattle.clnp_safety.proofs.Steps.{copy_there, Keeps, GivingIsFine, keeps-map, keeps-nothing, keeps-give_each, keeps-settle_for, keeps-deliver}
 use Rattle.clnp_safety.proofs.BufferOffers.{ComesInTime, unit_sound}
 use Rattle.clnp_safety.proofs.Effects.{IsSoundWith, notes_are_steady, step_keeps}
 use Rattle.clnp_safety.proofs.Arriving.{ContentInTime, arrival_is_sound}
@@ -138,7 +138,8 @@ module _ (laws : StepLaws) (plan : Plan) (fit : IsFit plan) (past : List Entry) 
   deliver_is_sound number place =
       since (deliver plan.limits w number place)
       (keeps-deliver Sound Told fine plan.limits w number place here
-      (λ copy e s there soon. taken_is_sound copy (copy_is_sound (number - 1) copy e) w place here s there soon))
+      (λ copy e s there soon.
+      let found = copy_there number w.copies copy e in taken_is_sound copy (copy_is_sound found.0 copy found.1) w place here s there soon))
 
   lose_copy_is_sound : (found : Option Copy) → Keeps Sound Told (lose_copy w found)
   lose_copy_is_sound None = keeps-nothing Sound Told w here

@@ -1,6 +1,6 @@
 -- What the parts of a step keep of the worlds, and what their lines are.
 use Rattle.clnp_machine.proofs.ClnpBase.Lists.{AllByRecursion-append}
-use Rattle.std.proofs.Common.{◌≡◌, ℕ, ◌+◌, ◌-◌, ◌<◌, List, [], ◌∷◌, ◌++◌, length, refl, inl, inr, Bool, true, false, arith}
+use Rattle.std.proofs.Common.{◌≡◌, ℕ, zero, suc, ◌+◌, ◌<◌, List, [], ◌∷◌, ◌++◌, length, refl, inl, inr, Bool, true, false, arith}
 use Rattle.std.specs.Prelude.{◌==◌, if◌then◌else◌, nat_lt, Option, None, Some, slice_get, slice_set}
 use Rattle.std.proofs.lemmas.Bool.{cases_Bool}
 use Rattle.clnp_machine.specs.Pdus.declared.nsap.target.Target.{Target}
@@ -17,7 +17,7 @@ use Rattle.clnp_machine.specs.ScenarioPlan.Plan.{Subnetwork}
 use Rattle.clnp_machine.specs.Change.{Change, PortIsAt, PortTakes, RouteIsGone, RouteIsSet}
 use Rattle.clnp_machine.specs.System.{SystemState, Input, IsChanged, Output}
 use Rattle.clnp_machine.specs.Step.{step}
-use Rattle.clnp_machine.specs.ClnpNetwork.LabelledNetwork.{LabelledNetwork, Copy, Numbered, Step, nothing, writes, followed_by, put_out, put_all_out, takes_effect, comes, comes_to, asks_role, asks_system, asks, first_port, frame_to, hand_to, is_late, give_to, give, give_each, for_nobody, settle_for, is_void, is_addressee, deliver_to, deliver_at, deliver, copy_from_outside, injects_on, injects, tells_of, ports_of, moved, moves_port_to, moves_port_of, moves_port_on, moves_port, sets_route_as, sets_route_of, sets_route, removes_route_as, removes_route_of, removes_route, resizes_port_of, resizes_port, resizes_ports, resizes_at, resizes_each, resizes_on, resizes}
+use Rattle.clnp_machine.specs.ClnpNetwork.LabelledNetwork.{LabelledNetwork, Copy, Numbered, Step, nothing, writes, followed_by, put_out, put_all_out, takes_effect, comes, comes_to, copy_numbered, asks_role, asks_system, asks, first_port, frame_to, hand_to, is_late, give_to, give, give_each, for_nobody, settle_for, is_void, is_addressee, deliver_to, deliver_at, deliver, copy_from_outside, injects_on, injects, tells_of, ports_of, moved, moves_port_to, moves_port_of, moves_port_on, moves_port, sets_route_as, sets_route_of, sets_route, removes_route_as, removes_route_of, removes_route, resizes_port_of, resizes_port, resizes_ports, resizes_at, resizes_each, resizes_on, resizes}
 use Rattle.std.specs.List.{AllByRecursion, list_any, range_with_len}
 use Rattle.clnp_machine.proofs.ClnpBase.Choices.{one_of}
 
@@ -52,6 +52,11 @@ with_outside w subnet sender target octets =
 -- the lines of frames from outside are fine
 abbrev pub InjectedIsFine : (Line → Type 0) → Type 0
 InjectedIsFine Q = (now copy : ℕ) (subnet sender : List ℕ) (target : Target) → Q (Injected now copy subnet sender target)
+
+-- a copy with a number is there at a place
+pub copy_there : (number : ℕ) (copies : List Copy) (copy : Copy) → copy_numbered number copies ≡ Some copy → (at : ℕ) × (slice_get copies at ≡ Some copy)
+copy_there zero copies copy e = absurd (cc)
+copy_there (suc at) copies copy e = (at, e)
 
 module _ (K : LabelledNetwork → Type 0) (Q : Line → Type 0) where
   pub keeps-nothing : (w : LabelledNetwork) → K w → Keeps K Q (nothing w)
@@ -141,7 +146,7 @@ module _ (K : LabelledNetwork → Type 0) (Q : Line → Type 0) where
     -- the system takes in the copy with a number, if there is one
     abbrev TakesNumbered : LabelledNetwork → ℕ → ℕ → Type 0
     TakesNumbered w number place =
-        (copy : Copy) → slice_get w.copies (number - 1) ≡ Some copy → Takes fine limits (record { number = number; copy = copy }) w place
+        (copy : Copy) → copy_numbered number w.copies ≡ Some copy → Takes fine limits (record { number = number; copy = copy }) w place
 
     keeps-is_void : (w : LabelledNetwork) (number : ℕ) (system : SystemState) → K w → Keeps K Q (is_void w system number)
     keeps-is_void w number system h = record { world = h; lines = (fine.void system.moment system.configuration.name number, tt) }
@@ -160,7 +165,7 @@ module _ (K : LabelledNetwork → Type 0) (Q : Line → Type 0) where
     keeps-deliver_at : (w : LabelledNetwork) (number place : ℕ) (found : Option SystemState) → K w → TakesNumbered w number place
         → Keeps K Q (deliver_at limits w number place found)
     keeps-deliver_at w number place None h k = keeps-nothing w h
-    keeps-deliver_at w number place (Some system) h k = keeps-deliver_to w number place (slice_get w.copies (number - 1)) system h k
+    keeps-deliver_at w number place (Some system) h k = keeps-deliver_to w number place (copy_numbered number w.copies) system h k
 
     pub keeps-deliver : (w : LabelledNetwork) (number place : ℕ) → K w → TakesNumbered w number place → Keeps K Q (deliver limits w number place)
     keeps-deliver w number place h k = keeps-deliver_at w number place (slice_get w.systems place) h k

@@ -1,5 +1,5 @@
 -- The simulated network: its systems, the copies of frames that were ever put on a subnetwork, and its moves.
-use Rattle.std.specs.Prelude.{ℕ, ◌+◌, ◌-◌, ◌==◌, ◌&&◌, max, not, nat_le, nat_lt, Bool, true, false, if◌then◌else◌, List, [], ◌∷◌, ◌++◌, length, map, sum, slice_get, slice_set, Option, None, Some}
+use Rattle.std.specs.Prelude.{ℕ, zero, suc, ◌+◌, ◌==◌, ◌&&◌, max, not, nat_le, nat_lt, Bool, true, false, if◌then◌else◌, List, [], ◌∷◌, ◌++◌, length, map, sum, slice_get, slice_set, Option, None, Some}
 use Rattle.std.specs.List.{list_any, range_with_len}
 use Rattle.std.specs.Str.{bytes_eq}
 use Rattle.clnp_plan.specs.Pdus.declared.nsap.target.Target.{Target}
@@ -226,6 +226,11 @@ lose_one w = lose_copy w (slice_get w.copies w.cursor)
 abbrev pub is_void : LabelledNetwork → SystemState → ℕ → Step
 is_void w system number = writes w (Void system.moment system.configuration.name number)
 
+-- the copy with a number; they are numbered from 1
+abbrev pub copy_numbered : ℕ → List Copy → Option Copy
+copy_numbered zero copies = None
+copy_numbered (suc place) copies = slice_get copies place
+
 -- the copy with a number is given to the system at a place, where it is for it
 abbrev pub deliver_to : Limits → LabelledNetwork → ℕ → ℕ → Option Copy → SystemState → Step
 deliver_to limits w number place None system = is_void w system number
@@ -235,7 +240,7 @@ deliver_to limits w number place (Some copy) system =
 
 abbrev pub deliver_at : Limits → LabelledNetwork → ℕ → ℕ → Option SystemState → Step
 deliver_at limits w number place None = nothing w
-deliver_at limits w number place (Some system) = deliver_to limits w number place (slice_get w.copies (number - 1)) system
+deliver_at limits w number place (Some system) = deliver_to limits w number place (copy_numbered number w.copies) system
 
 abbrev pub deliver : Limits → LabelledNetwork → ℕ → ℕ → Step
 deliver limits w number place = deliver_at limits w number place (slice_get w.systems place)
