@@ -516,7 +516,7 @@ class Network:
                 self.discards(system, first, "a1 00")
 
     def deliver(self, number_of_copy, system):
-        if number_of_copy <= len(self.copies) and self.entries(self.copies[number_of_copy - 1], system):
+        if 1 <= number_of_copy <= len(self.copies) and self.entries(self.copies[number_of_copy - 1], system):
             self.give(number_of_copy, system)
         else:
             self.note(system, f"void {number_of_copy}")

@@ -1,5 +1,5 @@
 -- What a network of the code stands for where a copy is given.
-use Rattle.std.proofs.Common.{◌≡◌, ℕ, ◌+◌, ◌-◌, ◌<◌, ◌≤◌, List, [], ◌∷◌, ◌++◌, length, take, drop, get_or, map, cond, Bool, true, false, Option, Some, None, refl, sym, ap, ◌∙◌, subst, arith}
+use Rattle.std.proofs.Common.{◌≡◌, ℕ, zero, suc, ◌+◌, ◌<◌, ◌≤◌, List, [], ◌∷◌, ◌++◌, length, take, drop, get_or, map, cond, Bool, true, false, Option, Some, None, refl, sym, ap, ◌∙◌, subst, arith}
 use Rattle.std.specs.Prelude.{slice_get}
 use Rattle.std.specs.List.{AllByRecursion}
 use Rattle.std.proofs.lemmas.Bool.{true≢false}
@@ -431,13 +431,22 @@ loses old before after within line model h =
 
 -- A copy that is named by its number.
 
-delivered : (limits : Limits) (model : network.LabelledNetwork) (number at place : ℕ) (system : SystemState) (found : Option network.Copy) → at ≡ number - 1
-    → slice_get model.systems place ≡ Some system → slice_get model.copies at ≡ found
+delivered : (limits : Limits) (model : network.LabelledNetwork) (number place : ℕ) (system : SystemState) (found : Option network.Copy)
+    → slice_get model.systems place ≡ Some system → network.copy_numbered number model.copies ≡ found
     → network.deliver limits model number place ≡ network.deliver_to limits model number place found system
-delivered limits model number at place system found at_is here there =
+delivered limits model number place system found here there =
     ap (λ (s : Option SystemState). network.deliver_at limits model number place s) here
-    ∙ ap (λ (n : ℕ). network.deliver_to limits model number place (slice_get model.copies n) system) (sym at_is)
     ∙ ap (λ (c : Option network.Copy). network.deliver_to limits model number place c system) there
+
+-- a copy is at the place before its number
+numbered_at : (copies : List network.Copy) (number at : ℕ) (found : Option network.Copy) → number ≡ suc at → slice_get copies at ≡ found
+    → network.copy_numbered number copies ≡ found
+numbered_at copies number at found is there = ap (λ (n : ℕ). network.copy_numbered n copies) is ∙ there
+
+-- there is none with a number that none of the places is before
+none_numbered : (copies : List network.Copy) (number : ℕ) → ((at : ℕ) → number ≡ suc at → length copies ≤ at) → network.copy_numbered number copies ≡ None
+none_numbered copies zero past = refl
+none_numbered copies (suc at) past = slice_get_past copies at (past at refl)
 
 -- the line of a copy that isn't there for the system at the place is written
 abbrev pub WritesVoid : Network → Taken → Taken → ℕ → ℕ → Type 0
@@ -462,30 +471,32 @@ delivers_nowhere code lines limits number place past model h =
     (follows_nothing code lines model h)
 
 -- there is no such copy
-pub delivers_none : (code : Network) (before after : Taken) (limits : Limits) (number at place : ℕ) → at ≡ number - 1 → place < length code.systems.items
-    → length code.copies.items ≤ at → WritesVoid code before after number place
+pub delivers_none : (code : Network) (before after : Taken) (limits : Limits) (number place : ℕ) → place < length code.systems.items
+    → ((at : ℕ) → number ≡ suc at → length code.copies.items ≤ at) → WritesVoid code before after number place
     → (model : network.LabelledNetwork) → Holds code model → Follows code before after (network.deliver limits model number place)
-delivers_none code before after limits number at place at_is within past writes model h =
+delivers_none code before after limits number place within past writes model h =
     let system = system_there code model place h.shows within in
     let same = counted code model h.shows in
-    let none : slice_get model.copies at ≡ None = slice_get_past model.copies at (omega arith) in
-    subst (λ (s : network.Step). Follows code before after s) (sym (delivered limits model number at place system.0 None at_is system.1 none))
+    let none : network.copy_numbered number model.copies ≡ None =
+    none_numbered model.copies number (λ at is. let beyond = past at is in omega arith) in
+    subst (λ (s : network.Step). Follows code before after s) (sym (delivered limits model number place system.0 None system.1 none))
     (void_follows code before after number place model system.0 writes h system.1)
 
 -- the copy isn't for the system
-pub delivers_other : (code : Network) (before after : Taken) (limits : Limits) (number at place : ℕ) → at ≡ number - 1 → place < length code.systems.items
+pub delivers_other : (code : Network) (before after : Taken) (limits : Limits) (number at place : ℕ) → number ≡ suc at → place < length code.systems.items
     → at < length code.copies.items → TellsAddressee code at place false → WritesVoid code before after number place
     → (model : network.LabelledNetwork) → Holds code model → Follows code before after (network.deliver limits model number place)
 delivers_other code before after limits number at place at_is within within' tells writes model h =
     let system = system_there code model place h.shows within in
     let copy = copy_there code model at h.shows within' in
     let no : false ≡ network.is_addressee copy.0 system.0 = tells model copy.0 system.0 h.shows copy.1 system.1 in
-    subst (λ (s : network.Step). Follows code before after s) (sym (delivered limits model number at place system.0 (Some copy.0) at_is system.1 copy.1))
+    subst (λ (s : network.Step). Follows code before after s) (sym (delivered limits model number place system.0 (Some copy.0) system.1
+    (numbered_at model.copies number at (Some copy.0) at_is copy.1)))
     (subst (λ (b : Bool). Follows code before after (cond b (network.give limits (numbered number copy.0) model place) (network.is_void model system.0 number))) no
     (void_follows code before after number place model system.0 writes h system.1))
 
 -- the copy is for the system
-pub delivers : (old code : Network) (before after : Taken) (limits : Limits) (number at place : ℕ) → at ≡ number - 1 → place < length old.systems.items
+pub delivers : (old code : Network) (before after : Taken) (limits : Limits) (number at place : ℕ) → number ≡ suc at → place < length old.systems.items
     → at < length old.copies.items → TellsAddressee old at place true
     → ((model : network.LabelledNetwork) (copy : network.Copy) → Holds old model → slice_get model.copies at ≡ Some copy
     → Follows code before after (network.give limits (numbered number copy) model place))
@@ -494,6 +505,7 @@ delivers old code before after limits number at place at_is within within' tells
     let system = system_there old model place h.shows within in
     let copy = copy_there old model at h.shows within' in
     let yes : true ≡ network.is_addressee copy.0 system.0 = tells model copy.0 system.0 h.shows copy.1 system.1 in
-    subst (λ (s : network.Step). Follows code before after s) (sym (delivered limits model number at place system.0 (Some copy.0) at_is system.1 copy.1))
+    subst (λ (s : network.Step). Follows code before after s) (sym (delivered limits model number place system.0 (Some copy.0) system.1
+    (numbered_at model.copies number at (Some copy.0) at_is copy.1)))
     (subst (λ (b : Bool). Follows code before after (cond b (network.give limits (numbered number copy.0) model place) (network.is_void model system.0 number))) yes
     (gives model copy.0 h copy.1))

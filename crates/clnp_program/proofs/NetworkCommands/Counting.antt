@@ -16,7 +16,7 @@ use Rattle.clnp_program.specs.NetworkCommands.Storm.{count_of, counts_in, counts
 use Rattle.clnp_program.specs.NetworkCommands.Counting.{tally_of}
 use Rattle.clnp_program.proofs.NetworkCommands.KindWords.{IsNamed, line_counts}
 use Rattle.clnp_program.proofs.NetworkCommands.Named.{AreNamed, AreNamedSubnets, names_after}
-pub use Rattle.clnp_program.proofs.ClnpWorld.LineSteps.{both-assoc, both-none, none-both, tally-append}
+pub use Rattle.clnp_program.proofs.ClnpWorld.LineSteps.{both-assoc, both-none, none-both, risen-both, risen-capped, risen-none, tally-append}
 use Rattle.clnp_machine.proofs.ClnpBase.Sums.{length_filter-append}
 
 -- the lines of a text are followed by those of the text behind it

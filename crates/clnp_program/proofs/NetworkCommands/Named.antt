@@ -1,5 +1,5 @@
 -- The lines of a run name systems and subnetworks of its scenario, whose names are words.
-use Rattle.std.proofs.Common.{◌≡◌, ℕ, ◌+◌, ◌-◌, Bool, true, false, List, [], ◌∷◌, Option, None, Some, refl, sym, subst, cond}
+use Rattle.std.proofs.Common.{◌≡◌, ℕ, ◌+◌, Bool, true, false, List, [], ◌∷◌, Option, None, Some, refl, sym, subst, cond}
 use Rattle.std.specs.Prelude.{◌==◌, max, nat_lt, slice_get, slice_set, length}
 use Rattle.std.specs.List.{AllByRecursion, list_any, range_with_len}
 use Rattle.clnp_machine.proofs.ClnpBase.Lists.{AllByRecursion-append, AllByRecursion-implies, AllByRecursion-slice_get}
@@ -157,7 +157,7 @@ names_deliver_at : (limits : Limits) (w : LabelledNetwork) (number place : ℕ) 
     → Names (network.deliver_at limits w number place s)
 names_deliver_at limits w number place None e h = names_nothing w h
 names_deliver_at limits w number place (Some s) e h =
-    names_deliver_to limits w number place (slice_get w.copies (number - 1)) s (there w place s e h) h
+    names_deliver_to limits w number place (network.copy_numbered number w.copies) s (there w place s e h) h
 
 -- ---- clocks go on
 

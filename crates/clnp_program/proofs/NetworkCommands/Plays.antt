@@ -7,7 +7,7 @@ use Rattle.clnp_machine.specs.ClnpPlan.declared.scenario_plan.event.Move.{Move}
 use Rattle.clnp_machine.specs.ClnpPlan.declared.scenario_plan.event.Move.TheVariants.{SettleOne}
 use Rattle.clnp_machine.specs.ClnpNetwork.LabelledNetwork.{LabelledNetwork, after, is_full, weight}
 use Rattle.clnp_machine.specs.ClnpNetwork.Run.{world_after}
-use Rattle.clnp_program.specs.ClnpWorld.Lines.{both, tally}
+use Rattle.clnp_program.specs.ClnpWorld.Lines.{both, no_lines, risen, tally}
 use Rattle.clnp_program.specs.ClnpWorld.State.{WorldState}
 use Rattle.clnp_program.specs.ClnpWorld.Stands.{Stands}
 use Rattle.clnp_program.specs.declared.clnp_world.lines.Counts.{Counts}
@@ -16,7 +16,7 @@ use Rattle.clnp_program.specs.declared.network_commands.play.Stop.TheVariants as
 use Rattle.clnp_program.specs.NetworkCommands.Counting.{Counted, StopsAt, tally_of}
 use Rattle.clnp_program.specs.NetworkCommands.Play.{PlayOf, UnderWay}
 use Rattle.clnp_program.specs.NetworkCommands.Playing.{IsUnderWay, Kind, PlayAs, Played, StopAs, Counting, Writing, Tallies, Waits}
-use Rattle.clnp_program.proofs.NetworkCommands.Counting.{both-none, tally_of-append}
+use Rattle.clnp_program.proofs.NetworkCommands.Counting.{both-none, risen-both, tally_of-append}
 use Rattle.clnp_program.proofs.NetworkCommands.Playing.{all_behind, stopped_next}
 use Rattle.clnp_program.proofs.NetworkCommands.Runs.{full_stays, full_weight-behind, world_after-append}
 use Rattle.clnp_program.proofs.NetworkCommands.Still.{counts_rest, plays_rest}
@@ -90,7 +90,7 @@ counted_one : (plan : Plan) (model : LabelledNetwork) (past : List Move) (move :
     → Counted plan model past code counts
     → is_full (world_after plan model past) ≡ false
     → Stands next (after plan (world_after plan model past) move).world
-    → new ≡ both counts (tally (after plan (world_after plan model past) move).lines)
+    → new ≡ risen counts (tally (after plan (world_after plan model past) move).lines)
     → Counted plan model (past ++ move ∷ []) next new
 counted_one plan model past move code next counts new u room stands lines =
     let told : Counts = tally (after plan (world_after plan model past) move).lines in
@@ -98,15 +98,17 @@ counted_one plan model past move code next counts new u room stands lines =
       room = full_weight-behind plan model past (move ∷ []) u.room ∙ rw room refl;
       stands = rw (world_after-append plan model past (move ∷ [])) stands;
       counted = lines
-          ∙ (ap (λ (c : Counts). both c told) u.counted
-          ∙ sym (tally_of-append plan model past (move ∷ []) ∙ ap (λ (c : Counts). both (tally_of plan model past) c) (both-none told)));
+          ∙ (ap (λ (c : Counts). risen c told) u.counted
+          ∙ (risen-both no_lines (tally_of plan model past) told
+          ∙ ap (λ (c : Counts). risen no_lines c)
+          (sym (tally_of-append plan model past (move ∷ []) ∙ ap (λ (c : Counts). both (tally_of plan model past) c) (both-none told)))));
     }
 
 pub counts_as : (kind : Kind) (plan : Plan) (model : LabelledNetwork) (past : List Move) (move : Move) (code next : WorldState) (a b : Option (List ℕ)) (counts new : Counts)
     → IsUnderWay kind plan model past code a b (Tallies counts)
     → is_full (world_after plan model past) ≡ false
     → Stands next (after plan (world_after plan model past) move).world
-    → new ≡ both counts (tally (after plan (world_after plan model past) move).lines)
+    → new ≡ risen counts (tally (after plan (world_after plan model past) move).lines)
     → IsUnderWay kind plan model (past ++ move ∷ []) next a b (Tallies new)
 counts_as (Writing form) plan model past move code next a b counts new u room stands lines = absurd u
 counts_as Counting plan model past move code next a b counts new u room stands lines =

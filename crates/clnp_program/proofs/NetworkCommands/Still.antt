@@ -9,7 +9,7 @@ use Rattle.clnp_machine.specs.ClnpPlan.declared.scenario_plan.event.Move.{Move}
 use Rattle.clnp_machine.specs.ClnpPlan.declared.scenario_plan.event.Move.TheVariants.{SettleOne}
 use Rattle.clnp_machine.specs.ClnpNetwork.LabelledNetwork.{Copy, Step, LabelledNetwork, after, is_full, nothing, settle_copy, weight}
 use Rattle.clnp_machine.specs.ClnpNetwork.Run.{full_weight, told_lines, told_of, world_after}
-use Rattle.clnp_program.specs.ClnpWorld.Lines.{both, no_lines, tally}
+use Rattle.clnp_program.specs.ClnpWorld.Lines.{both, no_lines, risen, tally}
 use Rattle.clnp_program.specs.ClnpWorld.State.{WorldState}
 use Rattle.clnp_program.specs.ClnpWorld.Stands.{Stands}
 use Rattle.clnp_program.specs.declared.clnp_world.lines.Counts.{Counts}
@@ -146,6 +146,6 @@ counts_rest plan model past move made times between code old new within is settl
       room = full_weight-behind plan model so_far rest u.room ∙ rests_room plan model front move (times - (made + 1)) r before.room u.room;
       stands = subst (λ (w : LabelledNetwork). Stands code w) (sym (world_after-append plan model so_far rest ∙ r.still.world)) u.stands;
       counted = u.counted
-          ∙ sym (tally_of-append plan model so_far rest
-          ∙ (ap (λ (c : Counts). both (tally_of plan model so_far) c) r.still.counted ∙ both-none (tally_of plan model so_far)));
+          ∙ ap (λ (c : Counts). risen no_lines c) (sym (tally_of-append plan model so_far rest
+          ∙ (ap (λ (c : Counts). both (tally_of plan model so_far) c) r.still.counted ∙ both-none (tally_of plan model so_far))));
     }

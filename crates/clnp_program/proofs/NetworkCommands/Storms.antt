@@ -12,7 +12,7 @@ use Rattle.clnp_machine.specs.ClnpNetwork.LabelledNetwork as network
 use Rattle.clnp_machine.specs.ClnpNetwork.LabelledNetwork.{first_world}
 use Rattle.clnp_machine.specs.ClnpNetwork.Run.{journal, last_world, moves_of_plan, stopped_at, text_of, world_after, world_end}
 use Rattle.clnp_program.specs.ClnpWorld.State.{WorldState}
-use Rattle.clnp_program.specs.ClnpWorld.Lines.{both, no_lines}
+use Rattle.clnp_program.specs.ClnpWorld.Lines.{both, no_lines, risen}
 use Rattle.clnp_program.specs.ClnpWorld.Stands.{Stands}
 use Rattle.clnp_program.specs.declared.clnp_world.lines.Counts.{Counts}
 use Rattle.clnp_program.specs.declared.network_commands.play.Stop.{Stop}
@@ -24,9 +24,9 @@ use Rattle.clnp_base.specs.CommandBase.ByLine.{EndOf}
 use Rattle.clnp_program.specs.NetworkCommands.RunTasks.{run_status, storm_task}
 use Rattle.clnp_base.specs.CommandBase.ComesAs.{ComesAs}
 use Rattle.clnp_program.specs.NetworkCommands.Play.{status_of}
-use Rattle.clnp_program.specs.NetworkCommands.Storm.{counts_of, line_of_run, line_unless, storm_line, storm_stopped_at, summary_text}
+use Rattle.clnp_program.specs.NetworkCommands.Storm.{capped, counts_of, line_of_run, line_unless, storm_line, storm_stopped_at, summary_text}
 use Rattle.clnp_program.specs.NetworkCommands.Counting.{Counted, SumOf}
-use Rattle.clnp_program.proofs.NetworkCommands.Counting.{counts_of-append, moves_counts, text_of-ends, both-none}
+use Rattle.clnp_program.proofs.NetworkCommands.Counting.{counts_of-append, moves_counts, text_of-ends, both-none, risen-capped, risen-none}
 use Rattle.clnp_program.proofs.NetworkCommands.KindWords.{end_counts}
 use Rattle.clnp_program.proofs.NetworkCommands.Named.{names_first, names_subnets}
 use Rattle.clnp_program.proofs.NetworkCommands.Playing.{told_whole}
@@ -35,7 +35,7 @@ use Rattle.clnp_program.proofs.NetworkCommands.Runs.{all_are_made}
 -- no move was made yet
 pub count_none : (plan : Plan) (code : WorldState) (counts : Counts) → Stands code (first_world plan) → counts ≡ no_lines
     → Counted plan (first_world plan) [] code counts
-count_none plan code counts stands none = record { room = refl; stands = stands; counted = none }
+count_none plan code counts stands none = record { room = refl; stands = stands; counted = none ∙ sym (risen-none no_lines) }
 
 made_of : (seed e c t events copies clock : ℕ) (a counts : Counts) → e ≡ events → c ≡ copies → t ≡ clock → a ≡ counts → Path Summary
     (record { seed = seed; events = e; copies = c; counts = a; clock = t }) (record { seed = seed; events = events; copies = copies; counts = counts; clock = clock })
@@ -53,17 +53,17 @@ summary_is seed events copies clock plan code counts fit c events_are copies_are
     let first : network.LabelledNetwork = first_world plan in
     let last : network.LabelledNetwork = world_after plan first moves in
     let same : last ≡ last_world plan = ap (world_after plan first) (sym (all_are_made plan first moves c.room)) in
-    let of_moves : counts ≡ counts_of (text_of plan first moves) =
-    c.counted ∙ sym (moves_counts plan first moves (names_subnets plan fit) (names_first plan fit)) in
+    let of_moves : counts ≡ risen no_lines (counts_of (text_of plan first moves)) =
+    c.counted ∙ ap (λ (t : Counts). risen no_lines t) (sym (moves_counts plan first moves (names_subnets plan fit) (names_first plan fit))) in
     let of_all : counts_of (journal plan) ≡ counts_of (text_of plan first moves) =
     ap counts_of (told_whole telling.Journal plan c.room)
     ∙ (counts_of-append (text_of plan first moves) (world_end last) (text_of-ends plan first moves)
     ∙ (ap (λ (t : Counts). both (counts_of (text_of plan first moves)) t) (end_counts last.clock (length last.copies))
     ∙ both-none (counts_of (text_of plan first moves)))) in (
       c.room,
-      made_of seed events copies clock (length plan.events) (length (last_world plan).copies) (last_world plan).clock counts (counts_of (journal plan))
+      made_of seed events copies clock (length plan.events) (length (last_world plan).copies) (last_world plan).clock counts (capped (counts_of (journal plan)))
           events_are (copies_are ∙ ap (λ (w : network.LabelledNetwork). length w.copies) same) (clock_is ∙ ap (λ (w : network.LabelledNetwork). w.clock) same)
-          (of_moves ∙ sym of_all),
+          (of_moves ∙ (ap (λ (t : Counts). risen no_lines t) (sym of_all) ∙ risen-capped (counts_of (journal plan)))),
     )
 
 -- ---- what a storm comes to

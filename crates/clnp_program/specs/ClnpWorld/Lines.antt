@@ -1,5 +1,5 @@
 -- What the lines of a move come to: their text, or what is counted of them.
-use Rattle.std.specs.Prelude.{◌≡◌, ◌≤◌, ℕ, ◌+◌, ◌^◌, ◌⊎◌, List, [], ◌∷◌, ◌++◌, codes, length}
+use Rattle.std.specs.Prelude.{◌≡◌, ℕ, ◌+◌, ◌-◌, ◌^◌, max, min, List, [], ◌∷◌, ◌++◌, codes, length}
 use Rattle.std.specs.List.{filter}
 use Rattle.std.specs.Str.{bytes_eq}
 use Rattle.clnp_machine.specs.ClnpPlan.Journal.{Line, Noted, Transmitted, Void, Late, Injected, Resized, Received, Lost, ForNobody, note_words}
@@ -65,10 +65,19 @@ both a b = record {
   expired = a.expired + b.expired;
 }
 
--- one of these counts is greater than any that the code has
-abbrev pub IsTooGreat : Counts → Type 0
-IsTooGreat counts =
-    (2 ^ 64 ≤ counts.got) ⊎ ((2 ^ 64 ≤ counts.reports) ⊎ ((2 ^ 64 ≤ counts.echoed) ⊎ ((2 ^ 64 ≤ counts.drops) ⊎ (2 ^ 64 ≤ counts.expired))))
+-- a count rises up to 2^64 - 1, and never falls
+abbrev pub rises : (count more : ℕ) → ℕ
+rises count more = max count (min (count + more) (2 ^ 64 - 1))
+
+-- so do counts, by what is counted of lines
+abbrev pub risen : (counts more : Counts) → Counts
+risen a b = record {
+  got = rises a.got b.got;
+  reports = rises a.reports b.reports;
+  echoed = rises a.echoed b.echoed;
+  drops = rises a.drops b.drops;
+  expired = rises a.expired b.expired;
+}
 
 -- what takes lines, as a contract sees it: the text of all that came, in a journal or in a trace, or what is counted of them
 pub data Taken : Type 0 where
@@ -78,7 +87,7 @@ pub data Taken : Type 0 where
 -- what there is once some lines came
 abbrev pub gained : Taken → List Line → Taken
 gained (Written telling text) lines = Written telling (text ++ told_lines telling lines)
-gained (Counted counts) lines = Counted (both counts (tally lines))
+gained (Counted counts) lines = Counted (risen counts (tally lines))
 
 -- exactly some lines came
 abbrev pub Gains : (before after : Taken) → List Line → Type 0

@@ -5,7 +5,7 @@ use Rattle.clnp_machine.specs.ClnpPlan.declared.scenario_plan.event.Move.{Move}
 use Rattle.clnp_machine.specs.ClnpNetwork.LabelledNetwork as network
 use Rattle.clnp_machine.specs.ClnpNetwork.LabelledNetwork.{after}
 use Rattle.clnp_machine.specs.ClnpNetwork.Run.{world_after, full_weight, moves_of_plan, stopped_at}
-use Rattle.clnp_program.specs.ClnpWorld.Lines.{both, no_lines, tally}
+use Rattle.clnp_program.specs.ClnpWorld.Lines.{both, no_lines, risen, tally}
 use Rattle.clnp_program.specs.ClnpWorld.State.{WorldState}
 use Rattle.clnp_program.specs.ClnpWorld.Stands.{Stands}
 use Rattle.clnp_program.specs.declared.clnp_world.lines.Counts.{Counts}
@@ -23,7 +23,7 @@ tally_of plan w (move ∷ moves) = both (tally (after plan w move).lines) (tally
 pub record Counted (plan : Plan) (model : network.LabelledNetwork) (moves : List Move) (code : WorldState) (counts : Counts) : Type 0 where
   pub room : full_weight plan model moves ≡ None
   pub stands : Stands code (world_after plan model moves)
-  pub counted : counts ≡ tally_of plan model moves
+  pub counted : counts ≡ risen no_lines (tally_of plan model moves)
 
 -- why moves weren't all made and counted: the network was full before one of them, or memory was refused
 abbrev pub StopsAt : Plan → network.LabelledNetwork → List Move → Stop → Type 0

@@ -1,5 +1,5 @@
 -- What a run of the scenario of a seed counts, and the line that tells it.
-use Rattle.std.specs.Prelude.{ℕ, Bool, List, [], ◌∷◌, ◌++◌, codes, length, Option, None, Some}
+use Rattle.std.specs.Prelude.{ℕ, ◌-◌, ◌^◌, min, Bool, List, [], ◌∷◌, ◌++◌, codes, length, Option, None, Some}
 use Rattle.std.specs.List.{filter}
 use Rattle.std.specs.Fmt.{decimal}
 use Rattle.std.specs.Str.{bytes_eq}
@@ -38,6 +38,16 @@ counts_in lines = record {
 abbrev pub counts_of : (text : List ℕ) → Counts
 counts_of text = counts_in (lines_of text)
 
+-- as a storm tells them: a count that is greater than 2^64 - 1 is told as that
+abbrev pub capped : Counts → Counts
+capped counts = record {
+  got = min counts.got (2 ^ 64 - 1);
+  reports = min counts.reports (2 ^ 64 - 1);
+  echoed = min counts.echoed (2 ^ 64 - 1);
+  drops = min counts.drops (2 ^ 64 - 1);
+  expired = min counts.expired (2 ^ 64 - 1);
+}
+
 abbrev pub counts_text : Counts → List ℕ
 counts_text counts =
     codes " got " ++ (decimal counts.got
@@ -62,7 +72,7 @@ summary_of seed plan = record {
   seed = seed;
   events = length plan.events;
   copies = length (last_world plan).copies;
-  counts = counts_of (journal plan);
+  counts = capped (counts_of (journal plan));
   clock = (last_world plan).clock;
 }
 

@@ -1,7 +1,7 @@
 //! The lines of moves, and what takes them.
-ghost use Rattle.std.specs.Prelude.{◌≡◌, ◌∷◌, ℕ, List, [], IfNone, IfSome, OnOk};
+ghost use Rattle.std.specs.Prelude.{◌≡◌, ◌∷◌, ℕ, List, [], OnOk};
 ghost use Rattle.clnp_machine.specs.ClnpPlan.Journal.{Noted};
-ghost use Rattle.clnp_program.specs.ClnpWorld.Lines.{Counted, Gains, IsTooGreat, Taken, both, no_lines, tally, told_of};
+ghost use Rattle.clnp_program.specs.ClnpWorld.Lines.{Counted, Gains, Taken, no_lines, risen, tally, told_of};
 
 use clnp_machine::base::NoMemory;
 use clnp_machine::nsaps::{Snpa, Target};
@@ -82,7 +82,7 @@ pub(crate) trait LineSink {
         ensures { OnOk result (Gains (taken self.old) (taken self.new) (told_of line.now ∷ [])) };
 }
 
-/// How many lines of some kinds a journal has.
+/// How many lines of some kinds a journal has; of more than 2^64 - 1 it says that many.
 #[derive(Clone, Copy, PartialEq, Eq)]
 pub struct Counts {
     /// Units handed up.
@@ -111,33 +111,32 @@ impl Counts {
         }
     }
 
-    /// These, and that of a note, exactly where a number is so great.
-    fn with_note(self, note: &Note) -> Option<Counts>
-        ensures counted { IfSome result (λ counts. (now : ℕ) (name : List ℕ) → counts ≡ both self (tally (Noted now name note.now ∷ []))) }
-        ensures none { IfNone result ((now : ℕ) (name : List ℕ) → IsTooGreat (both self (tally (Noted now name note.now ∷ [])))) }
+    /// These, and that of a note. A count that stands at 2^64 - 1 stays there.
+    fn with_note(self, note: &Note) -> Counts
+        ensures { (now : ℕ) (name : List ℕ) → result ≡ risen self (tally (Noted now name note.now ∷ [])) }
     {
         match note {
-            Note::Got { .. } => Some(Counts {
-                got: self.got.checked_add(1)?,
+            Note::Got { .. } => Counts {
+                got: self.got.saturating_add(1),
                 ..self
-            }),
-            Note::Report { .. } => Some(Counts {
-                reports: self.reports.checked_add(1)?,
+            },
+            Note::Report { .. } => Counts {
+                reports: self.reports.saturating_add(1),
                 ..self
-            }),
-            Note::Echoed { .. } => Some(Counts {
-                echoed: self.echoed.checked_add(1)?,
+            },
+            Note::Echoed { .. } => Counts {
+                echoed: self.echoed.saturating_add(1),
                 ..self
-            }),
-            Note::Discard { .. } => Some(Counts {
-                drops: self.drops.checked_add(1)?,
+            },
+            Note::Discard { .. } => Counts {
+                drops: self.drops.saturating_add(1),
                 ..self
-            }),
-            Note::Expired { .. } => Some(Counts {
-                expired: self.expired.checked_add(1)?,
+            },
+            Note::Expired { .. } => Counts {
+                expired: self.expired.saturating_add(1),
                 ..self
-            }),
-            _ => Some(self),
+            },
+            _ => self,
         }
     }
 }
@@ -148,13 +147,9 @@ impl LineSink for Counts {
 
     #[inline(always)]
     fn take(&mut self, _alloc: Global, line: &Line<'_>) -> Result<(), NoMemory> {
-        let Line::Noted { note, .. } = *line else {
-            return Ok(());
-        };
-        let Some(counts) = self.with_note(note) else {
-            return Err(NoMemory);
-        };
-        *self = counts;
+        if let Line::Noted { note, .. } = *line {
+            *self = self.with_note(note);
+        }
         Ok(())
     }
 }

@@ -7,7 +7,7 @@ ghost use Rattle.clnp_machine.specs.ClnpPlan.declared.config.Role.TheVariants as
 ghost use Rattle.clnp_systems.specs.Stands.{configuration_of};
 ghost use Rattle.clnp_systems.specs.declared.system.System.{System};
 ghost use Rattle.clnp_systems.specs.declared.system.System.TheVariants as variant;
-ghost use Rattle.clnp_program.specs.ClnpWorld.Lines.{Gains, both, tally};
+ghost use Rattle.clnp_program.specs.ClnpWorld.Lines.{Gains, risen, tally};
 ghost use Rattle.clnp_program.specs.ClnpWorld.Stands.{IsDeclared, IsLeftBy, Stands, TellsFull};
 ghost use Rattle.clnp_program.specs.declared.clnp_world.world.WorldRefusal.TheVariants.{NoMemory as WantsMemory};
 ghost use Rattle.clnp_systems.specs.EndSystem.Stands as end_system;
@@ -146,8 +146,7 @@ impl World {
     ///
     /// # Errors
     ///
-    /// Those of [`World::step`], where it answers them; the counts are then as they were. `NoMemory` also where a count
-    /// would pass 2^64 - 1.
+    /// Those of [`World::step`], where it answers them; the counts are then as they were.
     pub fn count_step(
         &mut self,
         alloc: Global,
@@ -159,7 +158,7 @@ impl World {
         ensures stands { OnOk result ((model : network.LabelledNetwork) → Stands self.old model
             → Stands self.new (network.after scenario.now model mv.now).world) }
         ensures counted { OnOk result ((model : network.LabelledNetwork) → Stands self.old model
-            → counts.new ≡ both counts.old (tally (network.after scenario.now model mv.now).lines)) }
+            → counts.new ≡ risen counts.old (tally (network.after scenario.now model mv.now).lines)) }
         ensures full { (model : network.LabelledNetwork) → Stands self.old model → TellsFull model result }
         ensures same { OnErr result (counts.new ≡ counts.old) }
         ensures left { IfErr result (λ e. IsLeftBy e self.old self.new) }

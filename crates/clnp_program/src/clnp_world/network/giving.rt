@@ -44,7 +44,11 @@ impl Network {
         if place >= self.systems.len() {
             return Ok(());
         }
-        let at = number.saturating_sub(1) as usize;
+        // Copies are numbered from 1.
+        if number == 0 {
+            return self.write_void(alloc, number, place, lines);
+        }
+        let at = number as usize - 1;
         if at >= self.copies.len() {
             return self.write_void(alloc, number, place, lines);
         }
