@@ -3,7 +3,7 @@ ghost use Rattle.std.specs.Prelude.{◌≡◌, ◌≢◌, ◌≤◌, ℕ, false,
 ghost use Rattle.clnp_machine.specs.ClnpBase.Streams.{Rose};
 ghost use Rattle.scenario.specs.Grammar.{plan_of};
 ghost use Rattle.scenario.specs.ScenarioWriting.Canonical.{text_of};
-ghost use Rattle.clnp_machine.specs.ScenarioPlan.Plan.{IsClosed};
+ghost use Rattle.clnp_machine.specs.ScenarioPlan.Plan.{IsClosed, Plan};
 ghost use Rattle.scenario.specs.ScenarioWriting.Seeds as seeds;
 ghost use Rattle.clnp_safety.specs.Runs.{RunsAreSafe};
 ghost use Rattle.clnp_program.specs.Words.{command_of, reads, Reads};
@@ -15,6 +15,7 @@ ghost use Rattle.clnp_program.specs.Live.{RunsAs};
 ghost use Rattle.clnp_program.specs.Serves.{Serves, ServesCommand, form_of};
 ghost use Rattle.clnp_program.specs.Tasks.{task};
 ghost use Rattle.clnp_program.specs.Agree.{TextsAgree};
+ghost use Rattle.clnp_program.specs.Traces.{TracesTell};
 ghost use Rattle.captures.specs.CommandBase.ComesAs.{ComesAs, most_input};
 
 use crate::advise::advice_on;
@@ -86,6 +87,9 @@ pub fn clnp_main<S: Source, K: Sink, B: Ports, C: Clock>(
     // The runs of each text that is a scenario are safe.
     ensures safe { (text : List ℕ) → IfOk (plan_of text) RunsAreSafe }
 
+    // A trace is the journal, with what becomes of each copy, which is told exactly once.
+    ensures traces { (plan : Plan) → TracesTell plan }
+
     // What commands make of one another's output, and what a share is worth.
     ensures agree { TextsAgree }
 {
@@ -141,14 +145,18 @@ fn serve_streamed<S: Source, K: Sink>(
     }
 }
 
-/// What is so of the runs of each text that is a scenario, those of storms among them.
+/// What is so of the runs of each text that is a scenario, those of storms among them, and of whatever trace.
 fn every_run_is_safe()
     ensures storms { (seed : ℕ) → (plan_of (text_of (seeds.storm seed)) ≡ Ok (seeds.storm seed)) × IsClosed (seeds.storm seed) }
     ensures safe { (text : List ℕ) → IfOk (plan_of text) RunsAreSafe }
+    ensures traces { (plan : Plan) → TracesTell plan }
 {
     laws::accepted_is_fit();
     laws::storms_are_scenarios();
     runs_are_safe();
+    clnp_machine::clnp_network::laws::the_trace_without_its_own_lines_is_the_journal();
+    crate::clnp_world::laws::what_becomes_of_a_copy_is_told_once();
+    crate::clnp_world::laws::a_giving_is_told_before_what_it_causes();
 }
 
 /// What commands make of one another's output, and what a share is worth.
