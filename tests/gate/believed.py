@@ -24,7 +24,7 @@ OF_OTHERS = [
     "clnp_machine/specs/Whereabouts.antt",
     "network_commands/specs/Storm.antt", "network_commands/src/storm.rt", "clnp_program/specs/Live.antt",
     "clnp_program/specs/Advised.antt", "clnp_program/specs/Agree.antt", "command_base/specs/ByLine.antt",
-    "command_base/specs/Output.antt", "clnp_program/specs/Texts.antt", "scenario_writing",
+    "command_base/specs/Output.antt", "clnp_program/specs/Texts.antt", "clnp_program/specs/Traces.antt", "scenario_writing",
     "scenario_plan/specs/Migrated.antt", "scenario/specs/Versions.antt", "clnp_safety/specs/Migrated.antt",
 ]
 NAME = r"[A-Za-z_][A-Za-z0-9_]*"

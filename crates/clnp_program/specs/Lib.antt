@@ -5,6 +5,7 @@ pub mod Live
 pub mod Advised
 pub mod Agree
 pub mod Texts
+pub mod Traces
 pub mod Answers
 pub mod Faults
 pub mod ClnpWorld

@@ -11,6 +11,7 @@ ghost use Rattle.scenario.specs.ScenarioWriting.Canonical.{text_of};
 ghost use Rattle.scenario.specs.ScenarioWriting.Seeds as seeds;
 ghost use Rattle.clnp_machine.specs.ClnpBase.Streams.{Rose};
 ghost use Rattle.clnp_program.specs.LiveNode.Clocks.{clock_of};
+ghost use Rattle.clnp_program.specs.Traces.{TracesTell};
 ghost use Rattle.clnp_program.specs.Words.{command_of};
 ghost use Rattle.clnp_program.specs.declared.fault.Fault.{Fault};
 ghost use Rattle.clnp_program.specs.Answers.{Answers, Ends, Informs, Runs, WritesLine};
@@ -71,6 +72,9 @@ pub fn run<S: Source, K: Sink, B: Ports, C: Clock, E: Sink>(
 
     // In no step of a system does a packet, a unit or what is kept vanish: each is sent, handed up or kept, or a note tells of it.
     ensures steps { NothingVanishes }
+
+    // A trace is the journal, with what becomes of each copy, which is told exactly once.
+    ensures traces { (plan : Plan) → TracesTell plan }
 
     // What commands make of one another's output, and what a share is worth.
     ensures agree { TextsAgree }

@@ -18,6 +18,7 @@ ghost use Rattle.clnp_program.specs.LiveNode.Clocks.{clock_of};
 ghost use Rattle.clnp_program.specs.Serves.{Serves, ServesCommand, form_of};
 ghost use Rattle.clnp_program.specs.Tasks.{task};
 ghost use Rattle.clnp_program.specs.Agree.{TextsAgree};
+ghost use Rattle.clnp_program.specs.Traces.{TracesTell};
 ghost use Rattle.captures.specs.CommandBase.ComesAs.{ComesAs, most_input};
 
 use crate::advise::advice_on;
@@ -97,6 +98,9 @@ pub fn clnp_main<S: Source, K: Sink, B: Ports, C: Clock>(
     // In no step of a system does a packet, a unit or what is kept vanish: each is sent, handed up or kept, or a note tells of it.
     ensures steps { NothingVanishes }
 
+    // A trace is the journal, with what becomes of each copy, which is told exactly once.
+    ensures traces { (plan : Plan) → TracesTell plan }
+
     // What commands make of one another's output, and what a share is worth.
     ensures agree { TextsAgree }
 {
@@ -152,18 +156,22 @@ fn serve_streamed<S: Source, K: Sink>(
     }
 }
 
-/// What is so of the runs of each text that is a scenario, those of storms among them, and of those of one system over links.
+/// What is so of the runs of each text that is a scenario, those of storms among them, of those of one system over links, and of traces.
 pub(crate) fn every_run_is_safe()
     ensures storms { (seed : ℕ) → (plan_of (text_of (seeds.storm seed)) ≡ Ok (seeds.storm seed)) × IsClosed (seeds.storm seed) }
     ensures safe { (text : List ℕ) → IfOk (plan_of text) RunsAreSafe }
     ensures live { (plan : Plan) → LiveRunsAreSafe plan }
     ensures steps { NothingVanishes }
+    ensures traces { (plan : Plan) → TracesTell plan }
 {
     nothing_vanishes();
     live_runs_are_safe();
     laws::accepted_is_fit();
     laws::storms_are_scenarios();
     runs_are_safe();
+    clnp_machine::clnp_network::laws::the_trace_without_its_own_lines_is_the_journal();
+    crate::clnp_world::laws::what_becomes_of_a_copy_is_told_once();
+    crate::clnp_world::laws::a_giving_is_told_before_what_it_causes();
 }
 
 /// What commands make of one another's output, and what a share is worth.
