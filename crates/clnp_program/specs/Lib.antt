@@ -7,6 +7,7 @@ pub mod Agree
 pub mod Texts
 pub mod Answers
 pub mod Faults
+pub mod FaultTexts
 pub mod ClnpWorld
 pub mod NetworkCommands
 pub mod LiveNode
