@@ -3,3 +3,4 @@ pub mod ClnpWorld
 pub mod NetworkCommands
 pub mod LiveNode
 pub mod FairCommands
+mod CodeNames

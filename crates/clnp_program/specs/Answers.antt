@@ -13,6 +13,7 @@ use Rattle.clnp_program.specs.Words.{command_of}
 use Rattle.clnp_program.specs.Texts.{behind_fault, information}
 use Rattle.clnp_program.specs.declared.fault.Fault.{Fault}
 use Rattle.clnp_program.specs.Faults.{fault_of}
+use Rattle.clnp_program.specs.FaultTexts.{fault_text}
 
 -- A text about the program: it was written and all is done, or the sink failed in this call and has a front of it.
 abbrev pub Informs : List ℕ → Option (List ℕ) → Option (List ℕ) → Type 0 → Status → Type 0
@@ -50,29 +51,20 @@ Runs words left_before left_after before after ports_before ports_after clock_be
     RunsOn (information words) words left_before left_after before after ports_before ports_after clock_before clock_after
     same_sink same_board same_clock read_rose write_rose status
 
--- the line of a fault, with a text of its own, and behind that of bad words which words are commands
-abbrev pub line_of_fault : Fault → (text : List ℕ) → List ℕ
-line_of_fault fault text = codes "clnp: " ++ (text ++ behind_fault fault)
+-- the line of a fault, and behind that of bad words which words are commands
+abbrev pub line_of_fault : Fault → List ℕ
+line_of_fault fault = codes "clnp: " ++ (fault_text fault ++ behind_fault fault)
 
 -- the line of advice, if there is any
 abbrev pub line_of_advice : (advice : List ℕ) → List ℕ
 line_of_advice [] = []
 line_of_advice (first ∷ rest) = codes "clnp: " ++ ((first ∷ rest) ++ codes "\n")
 
--- The line of a fault was written, with a text of its own.
-pub record WritesLine (fault : Fault) (before after : Option (List ℕ)) : Type 0 where
-  pub text : List ℕ
-  pub appends : Appends before after (line_of_fault fault text)
-
--- What is said of a fault: its line, with a text of its own, and behind it the line of advice, if there is any.
-pub record TellsFault (fault : Fault) (advice : List ℕ) (before after : Option (List ℕ)) : Type 0 where
-  pub text : List ℕ
-  pub appends : Appends before after (line_of_fault fault text ++ line_of_advice advice)
-
--- What is said on standard error: nothing where there is no fault.
+-- What is said on standard error: the line of the fault, and behind it the line of advice, if there is any; nothing where there
+-- is no fault.
 abbrev pub Tells : Option Fault → (advice : List ℕ) → (before after : Option (List ℕ)) → Type 0
 Tells None advice before after = Keeps before after
-Tells (Some fault) advice before after = TellsFault fault advice before after
+Tells (Some fault) advice before after = Appends before after (line_of_fault fault ++ line_of_advice advice)
 
 -- How a call with this status and this advice ends: its exit number, and what is said on standard error, unless that failed in
 -- this call.

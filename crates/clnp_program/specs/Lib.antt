@@ -8,6 +8,7 @@ pub mod Texts
 pub mod Traces
 pub mod Answers
 pub mod Faults
+pub mod FaultTexts
 pub mod ClnpWorld
 pub mod NetworkCommands
 pub mod LiveNode

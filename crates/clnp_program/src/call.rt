@@ -3,6 +3,7 @@ ghost use Rattle.std.specs.Prelude.{◌≡◌, ◌≤◌, ◌⊎◌, ℕ, false,
 ghost use Rattle.clnp_machine.specs.LiveModel.Safe.{LiveRunsAreSafe};
 ghost use Rattle.clnp_machine.specs.Whereabouts.{NothingVanishes};
 ghost use Rattle.clnp_machine.specs.ScenarioPlan.Plan.{IsClosed, Plan};
+ghost use Rattle.std.specs.Io.KnownBytes.{Appends};
 ghost use Rattle.clnp_program.specs.Advised.{Advised, is_bad_input};
 ghost use Rattle.clnp_program.specs.Agree.{TextsAgree};
 ghost use Rattle.clnp_safety.specs.Runs.{RunsAreSafe};
@@ -14,7 +15,7 @@ ghost use Rattle.clnp_program.specs.LiveNode.Clocks.{clock_of};
 ghost use Rattle.clnp_program.specs.Traces.{TracesTell};
 ghost use Rattle.clnp_program.specs.Words.{command_of};
 ghost use Rattle.clnp_program.specs.declared.fault.Fault.{Fault};
-ghost use Rattle.clnp_program.specs.Answers.{Answers, Ends, Informs, Runs, WritesLine};
+ghost use Rattle.clnp_program.specs.Answers.{Answers, Ends, Informs, Runs, line_of_fault};
 
 use crate::fault::{Fault, report, write_fault};
 use crate::help::information;
@@ -113,7 +114,7 @@ fn end_advised<E: Sink>(status: Status, advice: &Advice, errors: &mut E) -> u8
 pub fn end_without_link<E: Sink>(at: usize, errors: &mut E) -> u8
     ensures later { E.faults errors.old ≤ E.faults errors.new }
     ensures exits { result ≡ 9 }
-    ensures told { WritesLine (Fault.NoLink at) (E.written errors.old) (E.written errors.new)
+    ensures told { Appends (E.written errors.old) (E.written errors.new) (line_of_fault (Fault.NoLink at))
         ⊎ Rose (E.faults errors.old) (E.faults errors.new) }
 {
     let _ = write_fault(Fault::NoLink { at }, errors);

@@ -1,9 +1,11 @@
 //! How a call of the program ends: what is said on standard error, and the exit number.
-ghost use Rattle.std.specs.Prelude.{◌≡◌, ◌≤◌, ◌++◌, codes, OnOk, OnErr};
+ghost use Rattle.std.specs.Prelude.{◌≡◌, ◌≤◌, ◌+◌, ◌++◌, codes, length, OnOk, OnErr};
+ghost use Rattle.std.specs.Fmt.{decimal};
 ghost use Rattle.std.specs.Io.KnownBytes.{Appends};
 ghost use Rattle.clnp_machine.specs.ClnpBase.Streams.{Rose};
 ghost use Rattle.captures.specs.CommandBase.Codes.{magic_code};
-ghost use Rattle.clnp_program.specs.Answers.{Tells, TellsFault, WritesLine, line_of_advice};
+ghost use Rattle.clnp_program.specs.Answers.{Tells, line_of_advice, line_of_fault};
+ghost use Rattle.clnp_program.specs.FaultTexts.{code_name, fault_text};
 ghost use Rattle.clnp_program.specs.Faults.{fault_of};
 ghost use Rattle.clnp_program.specs.Texts.{behind_code, behind_fault, wanted};
 
@@ -15,7 +17,7 @@ use crate::network_commands::code::{
 };
 use crate::network_commands::scenarios::Code;
 use arrayvec::ArrayString;
-use std::fmt::Write;
+use itoa::Buffer;
 use thiserror::Error;
 
 /// The end of the line of bad words, and which words are commands.
@@ -28,35 +30,30 @@ const PCAPNG: &str = "
 clnp: a file in the pcapng form is turned into one by: tshark -r FILE -F pcap -w FILE.pcap
 ";
 
+/// The most octets of the text of a fault.
+const MOST_TEXT: usize = 60;
+
 /// Why a call of the program didn't do all that was asked.
 #[derive(Clone, Copy, Debug, Error)]
+#[error("{}", self.text())]
 pub enum Fault {
     /// The words are no command, first at this place, from 0.
-    #[error("bad words at {at}")]
     BadWords { at: usize },
     /// The input has more than 16,777,216 octets.
-    #[error("input too long")]
     TooLong,
     /// The input breaks its grammar, first at this line, from 1, with the code of what it breaks.
-    #[error("bad input at line {line}: {}", code_name(*.code))]
     BadInput { line: u32, code: u8 },
     /// The copies of a simulated network weigh too much, so many octets.
-    #[error("world full at {octets} octets")]
     WorldFull { octets: u64 },
     /// The source failed.
-    #[error("read fault")]
     ReadFault,
     /// The sink failed.
-    #[error("write fault")]
     WriteFault,
     /// At the end of a turn of a live node no port had its link any more, of so many.
-    #[error("all {links} links gone")]
     LinksGone { links: u8 },
     /// Memory was refused.
-    #[error("no memory")]
     NoMemory,
     /// The local end of the link word at this place, from 0, couldn't be bound.
-    #[error("no link at {at}")]
     NoLink { at: usize },
 }
 
@@ -77,10 +74,57 @@ impl Fault {
             Status::NoMemory => Some(Fault::NoMemory),
         }
     }
+
+    /// What is said of the fault.
+    pub fn text(self) -> ArrayString<MOST_TEXT>
+        ensures { result.bytes ≡ fault_text self }
+    {
+        match self {
+            Fault::BadWords { at } => numbered("bad words at ", at as u64, ""),
+            Fault::TooLong => numberless("input too long"),
+            Fault::BadInput { line, code } => bad_input(line, code),
+            Fault::WorldFull { octets } => numbered("world full at ", octets, " octets"),
+            Fault::ReadFault => numberless("read fault"),
+            Fault::WriteFault => numberless("write fault"),
+            Fault::LinksGone { links } => numbered("all ", links as u64, " links gone"),
+            Fault::NoMemory => numberless("no memory"),
+            Fault::NoLink { at } => numbered("no link at ", at as u64, ""),
+        }
+    }
 }
 
-/// The most octets of the text of a fault. None has half as many.
-const MOST_TEXT: usize = 120;
+/// A text without a number.
+fn numberless(piece: &str) -> ArrayString<MOST_TEXT>
+    requires { length piece.now ≤ 20 }
+    ensures { result.bytes ≡ piece.now }
+{
+    let mut text = ArrayString::new();
+    text.push_str(piece);
+    text
+}
+
+/// A number in decimal digits between two pieces.
+fn numbered(front: &str, number: u64, end: &str) -> ArrayString<MOST_TEXT>
+    requires front { length front.now ≤ 20 }
+    requires end { length end.now ≤ 20 }
+    ensures text { result.bytes ≡ front.now ++ (decimal number ++ end.now) }
+    ensures short { length result.bytes ≤ length front.now + (20 + length end.now) }
+{
+    let mut buffer = Buffer::new();
+    let mut text = numberless(front);
+    text.push_str(buffer.format(number));
+    text.push_str(end);
+    text
+}
+
+/// The text of a bad input: its first bad line, and the name of its code.
+fn bad_input(line: u32, code: u8) -> ArrayString<MOST_TEXT>
+    ensures { result.bytes ≡ codes "bad input at line " ++ (decimal line ++ (codes ": " ++ code_name code)) }
+{
+    let mut text = numbered("bad input at line ", line as u64, ": ");
+    text.push_str(code_name(code));
+    text
+}
 
 /// Says what went wrong, if anything did: the line of the fault, and behind that of bad words which words are
 /// commands; then the line of advice, if there is one. It takes no memory.
@@ -102,7 +146,7 @@ pub(crate) fn report<K: Sink>(status: Status, advice: &Advice, errors: &mut K) -
 /// Writes the line of a fault, and behind it the line of advice, if there is one.
 fn write_advised<K: Sink>(fault: Fault, advice: &Advice, errors: &mut K) -> Result<(), Failed>
     ensures later { K.faults errors.old ≤ K.faults errors.new }
-    ensures written { OnOk result (TellsFault fault advice.now (K.written errors.old) (K.written errors.new)) }
+    ensures written { OnOk result (Appends (K.written errors.old) (K.written errors.new) (line_of_fault fault ++ line_of_advice advice.now)) }
     ensures failed { OnErr result (Rose (K.faults errors.old) (K.faults errors.new)) }
 {
     write_fault(fault, errors)?;
@@ -125,10 +169,10 @@ fn write_advice<K: Sink>(advice: &[u8], errors: &mut K) -> Result<(), Failed>
 /// Writes the line of a fault, and behind that of bad words which words are commands.
 pub(crate) fn write_fault<K: Sink>(fault: Fault, errors: &mut K) -> Result<(), Failed>
     ensures later { K.faults errors.old ≤ K.faults errors.new }
-    ensures written { OnOk result (WritesLine fault (K.written errors.old) (K.written errors.new)) }
+    ensures written { OnOk result (Appends (K.written errors.old) (K.written errors.new) (line_of_fault fault)) }
     ensures failed { OnErr result (Rose (K.faults errors.old) (K.faults errors.new)) }
 {
-    let text = text_of(fault);
+    let text = fault.text();
     write_all(errors, b"clnp: ")?;
     write_pair(text.as_str().as_bytes(), behind(fault).as_bytes(), errors)
 }
@@ -141,16 +185,6 @@ fn write_pair<K: Sink>(front: &[u8], end: &[u8], errors: &mut K) -> Result<(), F
 {
     write_all(errors, front)?;
     write_all(errors, end)
-}
-
-/// The text of a fault, which is the one that is derived for it.
-///
-/// No clause speaks of a derived text, so the program's runs show it. Each fault has room; one that had none would be
-/// cut short.
-fn text_of(fault: Fault) -> ArrayString<MOST_TEXT> {
-    let mut text = ArrayString::new();
-    let _ = write!(text, "{fault}");
-    text
 }
 
 /// What stands behind the text of a fault: the end of its line, behind bad words which words are commands, and behind a
@@ -180,7 +214,11 @@ fn behind_bad_words() -> &'static str
 }
 
 /// The name of the code of what a line of an input breaks.
-fn code_name(code: u8) -> &'static str {
+#[tactic(auto, using(crate::proofs::CodeNames::named, crate::proofs::CodeNames::no_code))]
+fn code_name(code: u8) -> &'static str
+    ensures name { result.now ≡ code_name code }
+    ensures short { length result.now ≤ 13 }
+{
     match code {
         MAGIC => "magic",
         VERSION => "version",
@@ -188,6 +226,9 @@ fn code_name(code: u8) -> &'static str {
         RECORD_LENGTH => "record-length",
         CUT_FILE => "cut-file",
         NOT_PACKABLE => "not-packable",
-        _ => Code::of_number(code).map_or("other", Code::name),
+        _ => match Code::of_number(code) {
+            Some(code) => code.name(),
+            None => "other",
+        },
     }
 }

@@ -11,10 +11,9 @@ returns-clause-written g c =
     let before = g.K.Sink.written c.args.errors.now in
     let middle = g.K.Sink.written c.write_fault.new.errors in
     let after = g.K.Sink.written c.write_advice.new.errors in
-    let line = c.in_ok-write_fault.ensures.written in
+    let line = line_of_fault c.args.fault in
     let said : c.as_bytes.result.now ≡ c.args.advice.now = c.as_bytes.ensures.said in
-    on_ok_weaker c.write_advice.result (λ written. record {
-      text = line.text;
-      appends = subst (λ (advice : List ℕ). Appends before after (line_of_fault c.args.fault line.text ++ line_of_advice advice)) said
-          (Appends-trans before middle after (line_of_fault c.args.fault line.text) (line_of_advice c.as_bytes.result.now) line.appends written);
-    }) c.write_advice.ensures.written
+    on_ok_weaker c.write_advice.result
+    (λ written. subst (λ (advice : List ℕ). Appends before after (line ++ line_of_advice advice)) said
+    (Appends-trans before middle after line (line_of_advice c.as_bytes.result.now) c.in_ok-write_fault.ensures.written written))
+    c.write_advice.ensures.written

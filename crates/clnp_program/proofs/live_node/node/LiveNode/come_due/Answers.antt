@@ -13,7 +13,7 @@ use Rattle.clnp_program.proofs.LiveNode.Playing.{plays_then}
 use Rattle.std.proofs.Common.{◌≡◌, false, inl}
 use Rattle.std.specs.Prelude.{◌⊎◌}
 use Rattle.clnp_program.specs.LiveNode.Ran.{has_any_attached}
-use Rattle.clnp_program.specs.declared.live_node.node.Stop.TheVariants as stops
+use Rattle.clnp_program.specs.declared.live_node.node.Stop.TheVariants as broken
 use Rattle.clnp_program.proofs.LiveNode.Breaking.{alone_excused, breaks_for}
 use Rattle.clnp_program.proofs.live_node.node.LiveNode.come_due.Goals as goal
 
@@ -35,7 +35,7 @@ returns-clause-breaks g c =
     breaks_then _ (comes node (MomentComes c.args.now))
     (λ (other : Node) (outcomes : List Outcome). come_all other (asks (clnp_systems.configuration_of c.args.self.now.system)) outcomes)
     node _ _ _ _ _ _ _ (c.in_ok-comes.ensures.plays node (Unlabelled []) h tt)
-    (λ other m. subst (λ (config : SystemConfiguration). Breaks ((stop ≡ stops.WriteFault) ⊎ (has_any_attached (g.B.Ports.ports c.args.board.now) ≡ false)) (come_all other (asks config)) other (g.B.Ports.ports c.comes.new.board) (g.B.Ports.ports c.do_due.new.board)
+    (λ other m. subst (λ (config : SystemConfiguration). Breaks ((stop ≡ broken.WriteFault) ⊎ (has_any_attached (g.B.Ports.ports c.args.board.now) ≡ false)) (come_all other (asks config)) other (g.B.Ports.ports c.comes.new.board) (g.B.Ports.ports c.do_due.new.board)
     (g.K.Sink.written c.comes.new.sink) (g.K.Sink.written c.do_due.new.sink)) (c.in_ok-comes.ensures.config (Unlabelled []) tt) (breaks_for _ _ _ other _ _ _ _ inl (k other m))))
     c.do_due.ensures.breaks
 

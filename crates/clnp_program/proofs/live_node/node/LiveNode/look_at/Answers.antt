@@ -4,7 +4,7 @@ use Rattle.std.proofs.lemmas.Result.{IfErr-weaker, on_ok_weaker}
 use Rattle.clnp_machine.specs.ClnpPlan.Configuration.{SystemConfiguration}
 use Rattle.frame_links.specs.LinkBoard.Links.{CameFrame}
 use Rattle.frame_links.specs.LinkBoard.Ports.{ChangesPort, Detaches, LooksAt, PortState, is_attached_at}
-use Rattle.clnp_program.specs.declared.live_node.node.Stop.TheVariants as stops
+use Rattle.clnp_program.specs.declared.live_node.node.Stop.TheVariants as broken
 use Rattle.clnp_program.proofs.LiveNode.Breaking.{if_err_with}
 use Rattle.clnp_program.proofs.LiveNode.Steps.{looked_linked, looks_broken, looks_empty, looks_lost, looks_nowhere, looks_seen, looks_seen_breaks}
 use Rattle.clnp_program.proofs.live_node.node.LiveNode.look_at.Goals as goal
@@ -43,7 +43,7 @@ returns-in-Detached-clause-breaks g c =
     let after = g.B.Ports.ports c.look.new.self in
     looks_lost c.args.self.now board node c.args.port h after
     (subst (λ (p : ℕ). is_attached_at p board ≡ true) c.from-place.ensures (sym c.is_attached.ensures ∙ c.if-not-is_attached.false))
-    (stop ≡ stops.WriteFault) (g.K.Sink.written c.args.sink.now) (g.K.Sink.written c.write_loss.new.sink) c.name.result.now
+    (stop ≡ broken.WriteFault) (g.K.Sink.written c.args.sink.now) (g.K.Sink.written c.write_loss.new.sink) c.name.result.now
     (c.name.ensures ∙ ap (λ (s : SystemConfiguration). s.name) c.config.ensures)
     (subst (λ (p : ℕ). ChangesPort p board after Detaches) c.from-place.ensures c.in-Detached.ensures.polled) written left)
     c.write_loss.ensures.front c.write_loss.ensures.unwritten
@@ -68,7 +68,7 @@ returns-in-Frame-clause-breaks g c =
     let frame : CameFrame = record { from = c.in-Frame.got.from; to_group = c.in-Frame.got.group; octets = take c.in-Frame.got.len c.look.new.buf } in
     looks_seen_breaks c.args.self.now board node c.args.port h after
     (subst (λ (p : ℕ). is_attached_at p board ≡ true) c.from-place.ensures (sym c.is_attached.ensures ∙ c.if-not-is_attached.false))
-    (stop ≡ stops.WriteFault) (g.B.Ports.ports c.hand.new.board) (g.K.Sink.written c.args.sink.now) (g.K.Sink.written c.hand.new.sink) frame
+    (stop ≡ broken.WriteFault) (g.B.Ports.ports c.hand.new.board) (g.K.Sink.written c.args.sink.now) (g.K.Sink.written c.hand.new.sink) frame
     (subst (λ (p : ℕ). ChangesPort p board after (λ (a b : PortState). LooksAt a b (Some frame))) c.from-place.ensures c.in-Frame.ensures.polled) (breaks node))
     c.hand.ensures.breaks
 

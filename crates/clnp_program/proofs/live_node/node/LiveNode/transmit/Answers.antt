@@ -4,7 +4,7 @@ use Rattle.std.proofs.lemmas.Result.{err_from_is_err_and, on_ok_weaker}
 use Rattle.clnp_machine.specs.ClnpPlan.Configuration.{SystemConfiguration}
 use Rattle.clnp_systems.specs.Stands as clnp_systems
 use Rattle.frame_links.specs.LinkBoard.Ports.{ChangesPort, Detaches, PortState, SendsOn, is_attached_at}
-use Rattle.clnp_program.specs.declared.live_node.node.Stop.TheVariants as stops
+use Rattle.clnp_program.specs.declared.live_node.node.Stop.TheVariants as broken
 use Rattle.clnp_program.proofs.LiveNode.Breaking.{if_err_with}
 use Rattle.clnp_program.proofs.LiveNode.Steps.{past_end, sending_of, transmits_alone, transmits_broken, transmits_cut, transmits_lost, transmits_taken}
 use Rattle.clnp_program.proofs.live_node.node.LiveNode.transmit.Goals.{then-port-count-via-then-port-count, then-port-count-via-else-port-count+then-not-is_attached}
@@ -96,7 +96,7 @@ returns-in-Detached-clause-breaks g c =
     let on : is_attached_at c.args.sending.now.port board ≡ true =
     subst (λ (p : ℕ). is_attached_at p board ≡ true) c.from-port.ensures (sym c.is_attached.ensures ∙ c.if-not-is_attached.false) in
     transmits_lost live board after node h sent name c.name.result.now c.saturating_add-self.result named owned c.saturating_add-self.ensures
-    old mid (g.K.Sink.written c.write_loss.new.sink) (stop ≡ stops.WriteFault) on
+    old mid (g.K.Sink.written c.write_loss.new.sink) (stop ≡ broken.WriteFault) on
     (subst (λ (p : ℕ). ChangesPort p board after Detaches) c.from-port.ensures c.in-Detached.ensures)
     c.in_ok-write_transmission.ensures.written lost left)
     c.write_loss.ensures.front c.write_loss.ensures.unwritten
