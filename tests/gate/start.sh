@@ -1,6 +1,8 @@
 #!/usr/bin/env bash
-# Looks that ./clnp never runs a program of other sources than those that are there, and builds none where nothing changed.
-# It works on a small tree of its own, for which a stand-in for the kit builds a program that tells the octets of its sources.
+# Looks that ./clnp runs the proved program exactly where it was built of the sources that are there, and else the same sources
+# unproved, and says so; and that ./clnp prove builds none where nothing changed. It works on a small tree of its own, for which a
+# stand-in for the kit builds a program that tells the octets of its sources. Where the built program of this repository is there,
+# it looks how soon that starts.
 set -u
 root="$(cd "$(dirname "$0")/../.." && pwd)" || exit 2
 work="$(mktemp -d)" || exit 2
@@ -19,9 +21,30 @@ touch "$work/rattle/logic/antt-project.json" "$work/c/libos_c.a" "$work/c/liblib
 
 cat >"$work/bin/rt" <<'RT'
 #!/usr/bin/env bash
-# `rt version`, and `rt run`, in crates/clnp_tool, of a kit whose prover isn't where it was.
+# `rt version`; in crates/clnp_tool `rt try .. -- WORD..`, which runs and proves nothing, and `rt run`, of a kit whose prover isn't
+# where it was.
 if [ "$1" = version ]; then
     echo "a stand-in"
+    exit 0
+fi
+if [ "$1" = try ]; then
+    while [ "$1" != -- ]; do
+        shift
+    done
+    case "${2:-}" in
+        long)
+            echo "run=none proved=no" >&2
+            exit 2
+            ;;
+        copy) cat ;;
+        fail)
+            echo "clnp: bad words at 0" >&2
+            printf 'checked: ended status=3\nrun=ended status=3 runners=1 proved=no\n' >&2
+            exit 3
+            ;;
+        *) echo "unproved $(cat ../*/src/*.rt ../*/specs/*.antt | tr '\n' ' ')" ;;
+    esac
+    printf 'checked: ended status=0\nrun=ended status=0 runners=1 proved=no\n' >&2
     exit 0
 fi
 echo built >>../../built
@@ -78,18 +101,35 @@ chmod +x "$work/bin/rt" "$work/bin/rattle" "$work/bin/rattle-link"
 export PATH="$work/bin:$PATH"
 failed=0
 
-# What the program that is run tells is what the sources say, and so many were built so far.
+wrong() {
+    echo "$1" >&2
+    cat "$work/errors" >&2
+    failed=1
+}
+
+sources_say() {
+    cat "$tree"/crates/*/src/*.rt "$tree"/crates/*/specs/*.antt | tr '\n' ' '
+}
+
+# What is run before it is proved anew is the proved program of the sources as they are, or those sources unproved, which is said.
+# Then it is proved, if it isn't, and what the proved program tells is what the sources say. So many were built before and then.
 want() {
-    local said wanted builds
+    local said before
+    before="$(wc -l <"$tree/built")"
     said="$("${3:-$tree/clnp}" 2>"$work/errors")"
-    wanted="$(cat "$tree"/crates/*/src/*.rt "$tree"/crates/*/specs/*.antt | tr '\n' ' ')"
-    builds="$(wc -l <"$tree/built")"
-    if [ "$said" != "$wanted" ] || [ "$builds" -ne "$2" ]; then
-        echo "$1: said '$said', wanted '$wanted', built $builds times and not $2" >&2
-        cat "$work/errors" >&2
-        failed=1
+    if [ "$before" -eq "$2" ]; then
+        [ "$said" = "$(sources_say)" ] && [ ! -s "$work/errors" ] || wrong "$1: said '$said', wanted the proved '$(sources_say)'"
+    elif [ "$said" != "unproved $(sources_say)" ] || ! grep -q "this program isn't proved" "$work/errors"; then
+        wrong "$1: said '$said', wanted the unproved '$(sources_say)'"
+    fi
+    "${3:-$tree/clnp}" prove 2>"$work/errors" || wrong "$1: it isn't proved"
+    said="$("${3:-$tree/clnp}" 2>"$work/errors")"
+    if [ "$said" != "$(sources_say)" ] || [ "$(wc -l <"$tree/built")" -ne "$2" ] || [ -s "$work/errors" ]; then
+        wrong "$1: said '$said', wanted '$(sources_say)', built $(wc -l <"$tree/built") times and not $2"
     fi
 }
+
+touch "$tree/built"
 
 want "at first" 1
 want "nothing changed" 1
@@ -134,14 +174,14 @@ want "no stamp, and a source that changed" 14
 # Where a crate isn't proved no program is built or run, and a build that is stopped leaves nothing at work. What was proved before
 # isn't proved again.
 echo broken >"$tree/$code/lib.rt" && echo wrong >"$tree/crates/leaf/proofs/Lib.antt"
-said="$("$tree/clnp" 2>"$work/errors")"
+said="$("$tree/clnp" prove 2>"$work/errors")"
 status=$?
 if [ "$status" -ne 70 ] || [ -n "$said" ] || ! grep -q "this isn't proved" "$work/errors"; then
     echo "with a crate that isn't proved: said '$said', ended with $status" >&2
     failed=1
 fi
 echo slow >"$tree/crates/leaf/proofs/Lib.antt"
-SLOW="$work/slow" "$tree/clnp" >"$work/said" 2>"$work/errors" &
+SLOW="$work/slow" "$tree/clnp" prove >"$work/said" 2>"$work/errors" &
 process=$!
 for _ in $(seq 300); do
     [ ! -s "$work/slow" ] || break
@@ -171,18 +211,14 @@ rm "$tree/crates/clnp_tool/out/rlib/leaf.basis" "$tree/crates/clnp_tool/out/clnp
 want "behind a build that was killed" 16
 want_proved "behind a build that was killed" leaf $((leaf + 2))
 want_proved "behind a build that was killed" more "$more"
-# Of two starts at once the second waits for the program of the first.
+# Of two that prove at once the second waits for the program of the first.
 echo brief >"$tree/crates/leaf/proofs/Lib.antt" && echo together >"$tree/$code/lib.rt"
-"$tree/clnp" >"$work/first" 2>"$work/errors" &
+"$tree/clnp" prove 2>"$work/errors" &
 process=$!
 sleep 0.5
-"$tree/clnp" >"$work/second" 2>"$work/waited"
-wait "$process"
-if ! cmp -s "$work/first" "$work/second" || ! grep -q "this one waits" "$work/waited"; then
-    echo "two starts at once: said '$(cat "$work/first")' and '$(cat "$work/second")'" >&2
-    cat "$work/errors" "$work/waited" >&2
-    failed=1
-fi
+"$tree/clnp" prove 2>"$work/waited" || wrong "the second of two proofs at once failed"
+wait "$process" || wrong "the first of two proofs at once failed"
+grep -q "this one waits" "$work/waited" || wrong "the second of two proofs at once doesn't wait"
 want "two starts at once" 17
 want_proved "two starts at once" leaf $((leaf + 3))
 # Where the kit has its parts at other places, or its prover takes other words, rt builds the program.
@@ -191,6 +227,26 @@ want "a kit with its parts at other places" 18
 printf '#!/bin/sh\nexit 2\n' >"$work/bin/rattle" && chmod +x "$work/bin/rattle" && echo strange >"$tree/$code/lib.rt"
 want "a kit whose prover takes other words" 19
 mv "$work/elsewhere" "$work/bin/rattle"
+said="$("$tree/clnp" --version 2>"$work/errors" | tail -n 1)"
+[ "$said" = "proved by a stand-in" ] || wrong "the version of the proved program says '$said'"
+# Without a proved program input, output, status and standard error are passed through, and what can't be done so is refused.
+echo unproved >"$tree/$code/lib.rt"
+said="$(printf 'in\n' | "$tree/clnp" copy 2>"$work/errors")"
+[ "$said" = in ] || wrong "unproved: standard input isn't passed through"
+"$tree/clnp" fail >"$work/said" 2>"$work/errors"
+status=$?
+if [ "$status" -ne 3 ] || [ -s "$work/said" ] || [ "$(tail -n 1 "$work/errors")" != "clnp: bad words at 0" ]; then
+    wrong "unproved: ended with $status and not 3"
+fi
+for word in run long; do
+    "$tree/clnp" "$word" >"$work/said" 2>"$work/errors"
+    status=$?
+    if [ "$status" -ne 70 ] || [ -s "$work/said" ] || ! grep -q "clnp prove" "$work/errors"; then
+        wrong "unproved: \`$word\` ended with $status"
+    fi
+done
+said="$("$tree/clnp" --version 2>"$work/errors" | tail -n 1)"
+[ "$said" = "not proved" ] || wrong "the version of what isn't proved says '$said'"
 # A program whose sources changed isn't run either where it can't be built.
 rm "$work/bin/rt" && echo last >"$tree/$code/lib.rt"
 if command -v rt >/dev/null; then
@@ -202,7 +258,18 @@ if [ "$status" -ne 70 ] || [ -n "$said" ] || ! grep -q "there is no command rt" 
     echo "without the kit: said '$said', ended with $status" >&2
     failed=1
 fi
+# The proved program of this repository starts within a tenth of a second: the least of five starts.
+if [ -x "$root/crates/clnp_tool/out/clnp_tool" ] && "$root/clnp" --version 2>/dev/null | grep -q '^proved by '; then
+    least=1000000
+    for _ in 1 2 3 4 5; do
+        before="$(date +%s%N)"
+        "$root/clnp" --help >/dev/null
+        took=$((($(date +%s%N) - before) / 1000))
+        [ "$took" -ge "$least" ] || least="$took"
+    done
+    [ "$least" -le 100000 ] || wrong "the proved program takes $least microseconds to start"
+fi
 if [ "$failed" -eq 0 ]; then
-    echo "clnp: each of its starts ran the program of the sources that were there"
+    echo "clnp: each of its starts ran the proved program of the sources that were there, or said that it isn't proved"
 fi
 exit "$failed"
