@@ -29,6 +29,12 @@ HELLO = bytes.fromhex("820f0100020078324b010447002702")
 SHOWN = b"esh hold=120 sum=324b addr=47002702 rest="
 
 
+def end_by_signals():
+    """A shell has what it starts in the background pass over SIGINT: the program is to end by it."""
+    signal.signal(signal.SIGINT, signal.SIG_DFL)
+    signal.signal(signal.SIGTERM, signal.SIG_DFL)
+
+
 def record(second, frame):
     return struct.pack("<IIII", second, 0, len(frame), len(frame)) + frame
 
@@ -91,7 +97,7 @@ def live(program, command, which, ending):
     """One live view, ended by a signal or by the end of its input; `which` says which of the lines are wanted."""
     name = f"{command}, ended by {ending.name if ending else 'the end of its input'}"
     wrong = []
-    process = subprocess.Popen([program, command], stdin=subprocess.PIPE, stdout=subprocess.PIPE, bufsize=0)
+    process = subprocess.Popen([program, command], stdin=subprocess.PIPE, stdout=subprocess.PIPE, bufsize=0, preexec_fn=end_by_signals)
     for number, (piece, lines) in enumerate(PIECES):
         process.stdin.write(piece)
         came = came_within(process.stdout, LATE)
@@ -120,7 +126,7 @@ def many_at_once(program, command, which, ending):
     """Many records in one piece, and a signal shortly after them: no line is missing."""
     name = f"{command}, many records, ended by {ending.name}"
     count = 500
-    process = subprocess.Popen([program, command], stdin=subprocess.PIPE, stdout=subprocess.PIPE, bufsize=0)
+    process = subprocess.Popen([program, command], stdin=subprocess.PIPE, stdout=subprocess.PIPE, bufsize=0, preexec_fn=end_by_signals)
     process.stdin.write(HEADER + HELLO_RECORD * count + HELLO_RECORD[:20])
     came = []
     reader = threading.Thread(target=lambda: came.append(process.stdout.read()))
