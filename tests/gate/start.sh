@@ -98,14 +98,26 @@ printf '#!/bin/sh\necho "%s"\n' "$(cat "$3")" >"$2"
 chmod +x "$2"
 LINK
 chmod +x "$work/bin/rt" "$work/bin/rattle" "$work/bin/rattle-link"
-export PATH="$work/bin:$PATH"
 failed=0
 
 wrong() {
     echo "$1" >&2
-    cat "$work/errors" >&2
+    cat "$work/errors" 2>/dev/null >&2
     failed=1
 }
+
+# The proved program of this repository starts within a tenth of a second: the least of five starts.
+if [ -x "$root/crates/clnp_tool/out/clnp_tool" ] && "$root/clnp" --version 2>/dev/null | grep -q '^proved by '; then
+    least=1000000
+    for _ in 1 2 3 4 5; do
+        before="$(date +%s%N)"
+        "$root/clnp" --help >/dev/null
+        took=$((($(date +%s%N) - before) / 1000))
+        [ "$took" -ge "$least" ] || least="$took"
+    done
+    [ "$least" -le 100000 ] || wrong "the proved program takes $least microseconds to start"
+fi
+export PATH="$work/bin:$PATH"
 
 sources_say() {
     cat "$tree"/crates/*/src/*.rt "$tree"/crates/*/specs/*.antt | tr '\n' ' '
@@ -257,17 +269,6 @@ status=$?
 if [ "$status" -ne 70 ] || [ -n "$said" ] || ! grep -q "there is no command rt" "$work/errors"; then
     echo "without the kit: said '$said', ended with $status" >&2
     failed=1
-fi
-# The proved program of this repository starts within a tenth of a second: the least of five starts.
-if [ -x "$root/crates/clnp_tool/out/clnp_tool" ] && "$root/clnp" --version 2>/dev/null | grep -q '^proved by '; then
-    least=1000000
-    for _ in 1 2 3 4 5; do
-        before="$(date +%s%N)"
-        "$root/clnp" --help >/dev/null
-        took=$((($(date +%s%N) - before) / 1000))
-        [ "$took" -ge "$least" ] || least="$took"
-    done
-    [ "$least" -le 100000 ] || wrong "the proved program takes $least microseconds to start"
 fi
 if [ "$failed" -eq 0 ]; then
     echo "clnp: each of its starts ran the proved program of the sources that were there, or said that it isn't proved"
